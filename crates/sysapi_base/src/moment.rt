@@ -1,5 +1,9 @@
-ghost use Rattle.std.specs.Prelude.{◌≡◌, ◌<◌, ◌↔◌, ◌-◌, ℕ, min, IsSome, IfSome};
+ghost use Rattle.std.specs.Prelude.{IsUtf8, ◌≡◌, ◌<◌, ◌↔◌, ◌-◌, ℕ, min, IsSome, IfSome};
+ghost use Rattle.sysapi_base.specs.Moment.{moment_text};
 
+mod text;
+
+use self::text::{date_text, time_text};
 use std::marker::Model;
 
 /// The first millisecond of the year 10000, counted from 1970.
@@ -53,4 +57,24 @@ impl Moment {
     {
         self.millis
     }
+
+    /// The moment's text, as `2000-01-01T00:00:00.000Z` (RFC 3339).
+    pub fn text(&self) -> [u8; 24]
+        ensures text { result ≡ moment_text self.now }
+        ensures utf8 { IsUtf8 result }
+    {
+        written(self.millis)
+    }
+}
+
+/// The text of the moment so many milliseconds after the start of 1970.
+fn written(millis: u64) -> [u8; 24]
+    requires { millis < END }
+    ensures { result ≡ moment_text millis }
+{
+    let mut text = [b'T'; 24];
+    text[..10].copy_from_slice(&date_text(millis / 86_400_000));
+    text[11..23].copy_from_slice(&time_text(millis));
+    text[23] = b'Z';
+    text
 }

@@ -1,0 +1,5 @@
+pub mod Document
+pub mod Seen
+pub mod Falls
+pub mod Data
+pub mod Read
