@@ -20,11 +20,12 @@ POST_P = b'POST /projects HTTP/1.1\r\nHost: h\r\nContent-Length: 12\r\n\r\n{"nam
 GET_0 = f"GET /projects/{project_id(0)} HTTP/1.1\r\nHost: h\r\n\r\n".encode()
 HEAD = b"HEAD /projects HTTP/1.1\r\nHost: h\r\n\r\n"
 NO_ROUTE = b"PUT /projects?x HTTP/1.1\nhost:h\nConnection: Keep-Alive\ncontent-length: 4\n\nbody"
-BAD_BODY = b"POST http://h/projects HTTP/1.1\r\nHost: h\r\nAccept: */*\r\nContent-Length: 1\r\n\r\n{"
+ABSOLUTE = b"GET http://h/projects HTTP/1.1\r\nHost: h\r\n\r\n"
+BAD_BODY = b"POST /projects?a=b?c HTTP/1.1\r\nHost: h\r\nAccept: */*\r\nContent-Length: 1\r\n\r\n{"
 CHUNKED = b"POST /projects HTTP/1.1\r\nHost: h\r\nTransfer-Encoding: chunked\r\n\r\n2\r\n{}\r\n0\r\n\r\n"
 OLD = b"GET /projects HTTP/1.0\r\nHost: h\r\n\r\n"
-REQUESTS = [POST_P, POST_P, GET_0, HEAD, NO_ROUTE, BAD_BODY, CHUNKED, OLD]
-GOOD = POST_P + GET_0 + HEAD + NO_ROUTE + BAD_BODY + POST_P + GET_0
+REQUESTS = [POST_P, POST_P, GET_0, HEAD, NO_ROUTE, ABSOLUTE, BAD_BODY, CHUNKED, OLD]
+GOOD = POST_P + GET_0 + HEAD + NO_ROUTE + ABSOLUTE + BAD_BODY + POST_P + GET_0
 
 # bytes that mean something in a head or in a document, and a few that never do
 TELLING = b"\r\n\r\n  \t:/?#{}[]\",\\0159-+.eEpPHh\x00\x7f\x80\xc3\xff"

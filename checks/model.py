@@ -170,10 +170,8 @@ def document(body):
 
 
 def path_of(target):
-    """The path of a target, or an empty one where it has none."""
-    if target.startswith("http://"):
-        target = re.sub("http://[^/?#]*", "", target, count=1) or "/"
-    return target.split("?", 1)[0] if target.startswith("/") else ""
+    """The path of a target. One with a scheme and an authority isn't built, and has no route."""
+    return target.split("?", 1)[0]
 
 
 def error(status, text, *more):

@@ -125,7 +125,7 @@ def routes():
     yield Row("HEAD has the head alone", head + head + POST_P, [NO_ROUTE_HEAD, NO_ROUTE_HEAD, MADE_P])
     yield Row("the query part is no part of the path", POST_P.replace(b"/projects ", b"/projects?a=b "), [MADE_P])
     absolute = POST_P.replace(b"/projects ", b"http://h/projects ")
-    yield Row("an absolute target", absolute + GET_0.replace(b"GET ", b"GET http://h:80"), [MADE_P, FOUND_P])
+    yield Row("a target with a scheme isn't built", absolute + POST_P, [NO_ROUTE, MADE_P])
     with_body = b"GET /project HTTP/1.1\r\nHost: h\r\nContent-Length: 3\r\n\r\nGET"
     yield Row("a body that nobody asked for is read over", with_body + POST_P, [NO_ROUTE, MADE_P])
 
