@@ -5,11 +5,13 @@ and common.py judges those. Usage: rows.py [PROGRAM]
 """
 
 import os
+import subprocess
 import time
 
 from common import (
     CREATED,
     CUT_SHORT,
+    PATIENCE,
     REFUSED,
     Wrong,
     check_end,
@@ -223,10 +225,58 @@ def words():
         yield Row(name, POST_P, [], 1, CANNOT_OPEN, words=given, reads_nothing=True)
 
 
+class Fault:
+    """A run whose input or output fails: its name, what opens the file in its place, and the line that tells it."""
+
+    def __init__(self, name, stdin, stdout, complaint):
+        self.name = name
+        self.stdin = stdin
+        self.stdout = stdout
+        self.complaint = complaint
+
+    def check(self, program):
+        source, sink = self.stdin(), self.stdout()
+        try:
+            ended = subprocess.run(
+                [program, "-", "once"], stdin=source, stdout=sink, stderr=subprocess.PIPE, timeout=PATIENCE
+            )
+        except subprocess.TimeoutExpired:
+            raise Wrong(f"it had not ended after {PATIENCE} seconds") from None
+        finally:
+            os.close(source)
+            os.close(sink)
+        told = (ended.returncode, ended.stderr.decode("utf-8", "replace"))
+        if told != (1, self.complaint):
+            raise Wrong(f"it ended with {told}, and not {(1, self.complaint)}")
+
+
+def faults():
+    """Files that the system refuses to read or to write."""
+    folder = lambda: os.open("/", os.O_RDONLY)
+    nothing = lambda: os.open(os.devnull, os.O_RDWR)
+    yield Fault("input that can't be read", folder, nothing, "sysapi: read fault\n")
+    yield Fault("output onto a full device", requests_in_pipe, lambda: os.open("/dev/full", os.O_WRONLY), "sysapi: write fault\n")
+    yield Fault("output into a pipe that nobody reads", requests_in_pipe, pipe_without_reader, "sysapi: write fault\n")
+
+
+def requests_in_pipe():
+    """The end of a pipe that has the first project's requests."""
+    reader, writer = os.pipe()
+    os.write(writer, POST_P + GET_0)
+    os.close(writer)
+    return reader
+
+
+def pipe_without_reader():
+    reader, writer = os.pipe()
+    os.close(reader)
+    return writer
+
+
 def main():
     program, started = program_named(), time.monotonic()
     rows, failures = [], []
-    for group in (served, routes, bodies, cut, refused, built, words):
+    for group in (served, routes, bodies, cut, refused, built, words, faults):
         rows += group()
     for row in rows:
         try:
