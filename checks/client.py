@@ -1,0 +1,271 @@
+"""Sessions of real clients with the program: Python's http.client, and curl where it is there.
+
+The program serves one connection over its standard input and output, so a bridge listens on a free port of this machine and
+gives each connection that it accepts a program of its own. Every response must be whole by the client's own judgement.
+Usage: client.py [PROGRAM]
+"""
+
+import email.utils
+import http.client
+import json
+import os
+import re
+import shutil
+import socket
+import subprocess
+import tempfile
+import threading
+import time
+
+from common import REFUSED, Wrong, conclude, program_named, project_id
+
+HOST = "127.0.0.1"
+# seconds that any one step of a client may take: a session ends with the first that takes longer
+PATIENCE = 4
+
+PROJECT = "/projects/" + project_id(0)
+ERROR = '{"@type":"Error","error":"%s"}'
+
+
+class Bridge:
+    """Hands the bytes of each connection to a program of its own and back, at most `piece` bytes at a time to the program."""
+
+    def __init__(self, program, piece):
+        self.program = program
+        self.piece = piece
+        self.started = []
+        self.ends = []
+        self.served = threading.Condition()
+        self.listener = socket.create_server((HOST, 0))
+        self.port = self.listener.getsockname()[1]
+        threading.Thread(target=self.accept, daemon=True).start()
+
+    def accept(self):
+        while True:
+            try:
+                connection, _ = self.listener.accept()
+            except OSError:
+                return
+            threading.Thread(target=self.serve, args=(connection,), daemon=True).start()
+
+    def serve(self, connection):
+        pipe = subprocess.PIPE
+        with connection, subprocess.Popen([self.program, "-", "once"], stdin=pipe, stdout=pipe, stderr=pipe, bufsize=0) as it:
+            self.started.append(it)
+            inward = threading.Thread(target=self.hand_in, args=(connection, it.stdin), daemon=True)
+            inward.start()
+            for written in iter(lambda: it.stdout.read(65536), b""):
+                connection.sendall(written)
+            # the peer sees the end, and is read to its own, so that nothing that was written is lost on its way
+            connection.shutdown(socket.SHUT_WR)
+            inward.join(PATIENCE)
+            end = (it.wait(), it.stderr.read().decode("utf-8", "replace"))
+        with self.served:
+            self.ends.append(end)
+            self.served.notify_all()
+
+    def hand_in(self, connection, to):
+        """Copies what the peer sends until it ends; what comes after the program's end is dropped."""
+        try:
+            for sent in iter(lambda: connection.recv(65536), b""):
+                for at in range(0, len(sent), self.piece):
+                    if not to.closed:
+                        self.write(to, sent[at : at + self.piece])
+        except OSError:
+            pass
+        if not to.closed:
+            to.close()
+
+    @staticmethod
+    def write(to, piece):
+        try:
+            to.write(piece)
+        except BrokenPipeError:
+            to.close()
+
+    def check_end(self, place, status, complaint):
+        """The program of the connection with this place has ended, with this status and this line."""
+        with self.served:
+            if not self.served.wait_for(lambda: len(self.ends) > place, PATIENCE):
+                raise Wrong(f"the program of connection {place} had not ended after {PATIENCE} seconds")
+            if self.ends[place] != (status, complaint):
+                raise Wrong(f"the program of connection {place} ended with {self.ends[place]}, and not {(status, complaint)}")
+
+    def close(self):
+        """Takes no more connections, and leaves no program behind, whatever it was at."""
+        self.listener.close()
+        for it in self.started:
+            it.kill()
+
+
+def same(what, found, wanted):
+    if found != wanted:
+        raise Wrong(f"{what} is {found!r}, and not {wanted!r}")
+
+
+def record(body, name):
+    """The body is the first project's record, with this name; returns it as it stands."""
+    created = json.loads(body)["created"]
+    if not re.fullmatch(r"\d{4}-\d\d-\d\dT\d\d:\d\d:\d\d\.\d{3}Z", created):
+        raise Wrong(f"created is {created!r}")
+    wanted = {
+        "@id": project_id(0),
+        "@type": "Project",
+        "created": created,
+        "defaultBranch": {"@id": project_id(1)},
+        "description": None,
+        "name": name,
+    }
+    same("the record", body.decode("utf-8"), json.dumps(wanted, ensure_ascii=False, separators=(",", ":")))
+    return body
+
+
+class Peer:
+    """One connection of http.client, which must stay the same connection from request to request."""
+
+    def __init__(self, port):
+        self.connection = http.client.HTTPConnection(HOST, port, timeout=PATIENCE)
+        self.connection.connect()
+        self.socket = self.connection.sock
+        # (http.client closes its own where the server is to close)
+        self.watched = self.socket.dup()
+
+    def ask(self, method, path, body=None, headers=None):
+        self.connection.request(method, path, body, headers or {})
+        return self.answer()
+
+    def send_slowly(self, path, body):
+        """Sends a request's body in pieces of one to seven bytes, each in a packet of its own."""
+        self.socket.setsockopt(socket.IPPROTO_TCP, socket.TCP_NODELAY, 1)
+        self.connection.putrequest("POST", path)
+        self.connection.putheader("Content-Length", str(len(body)))
+        self.connection.endheaders()
+        at = 0
+        while at < len(body):
+            some = 1 + at % 7
+            self.connection.send(body[at : at + some])
+            at += some
+        return self.answer()
+
+    def close(self):
+        self.connection.close()
+        self.watched.close()
+
+    def answer(self, closes=False):
+        """The response's status and its body, whole, with a head of the documented form."""
+        if self.connection.sock is not self.socket:
+            raise Wrong("the client had to connect again")
+        response = self.connection.getresponse()
+        body = response.read()
+        names = ["Date", "Content-Type", "Content-Length"] + ["Connection"] * closes
+        same("the list of fields", [name for name, _ in response.getheaders()], names)
+        same("the version", response.version, 11)
+        same("whether the server closes", response.will_close, closes)
+        same("Content-Type", response.getheader("Content-Type"), "application/json")
+        when = email.utils.parsedate_to_datetime(response.getheader("Date")).timestamp()
+        if abs(time.time() - when) > PATIENCE:
+            raise Wrong(f"Date is {response.getheader('Date')}")
+        self.length = int(response.getheader("Content-Length"))
+        return response.status, body
+
+
+def session_of_http_client(bridge):
+    """Keep-alive, a refused body, HEAD, a body in many small pieces, and then a request that ends the session."""
+    peer = Peer(bridge.port)
+    status, made = peer.ask("POST", "/projects", '{"name":"P"}', {"Content-Type": "application/json"})
+    same("the status", status, 201)
+    record(made, "P")
+    same("the project", peer.ask("GET", PROJECT), (200, made))
+    same("another project", peer.ask("GET", "/projects/" + project_id(7)), (404, (ERROR % "unknown-project").encode()))
+    same("a wrong body", peer.ask("POST", "/projects", '{"name":'), (400, (ERROR % "bad-json").encode()))
+    same("HEAD", peer.ask("HEAD", "/projects"), (404, b""))
+    same("the length that HEAD tells", peer.length, len(ERROR % "no-route"))
+    same("the project after HEAD", peer.ask("GET", PROJECT), (200, made))
+    name = "slowly, slowly \u00e9 " * 100
+    body = json.dumps({"name": name}, ensure_ascii=False).encode("utf-8")
+    status, second = peer.send_slowly("/projects", body)
+    same("the status of a slow body", (status, json.loads(second)["name"]), (201, name))
+    same("the first project after it", peer.ask("GET", PROJECT), (200, made))
+    peer.connection.request("POST", "/projects", iter([b"{}"]), {"Transfer-Encoding": "chunked"}, encode_chunked=True)
+    same("a chunked body", peer.answer(closes=True), (501, (ERROR % "unknown-coding").encode()))
+    same("what comes after the last response", peer.watched.recv(1), b"")
+    peer.close()
+    bridge.check_end(0, 6, REFUSED)
+
+
+def each_connection_starts_anew(bridge):
+    """Another connection has another program, whose repository is empty, and which ends well when the client leaves."""
+    peer = Peer(bridge.port)
+    same("a project of the other connection", peer.ask("GET", PROJECT), (404, (ERROR % "unknown-project").encode()))
+    peer.close()
+    bridge.check_end(0, 0, "")
+
+
+def session_of_curl(bridge):
+    """The same by one call of curl, which says how it judged each transfer and whether it had to connect for it."""
+    url, places = f"http://{HOST}:{bridge.port}", []
+    with tempfile.TemporaryDirectory() as folder:
+        words = []
+        for number, (more, path) in enumerate(curl_requests()):
+            places.append(os.path.join(folder, str(number)))
+            words += ["--next"] * bool(number) + ["-sS", "--noproxy", "*", "--max-time", str(PATIENCE), "-o", places[-1]]
+            words += ["-w", "%{http_code} %{num_connects}\n", *more, url + path]
+        ended = subprocess.run(["curl", "-q", "--fail-early", *words], capture_output=True, timeout=2 * PATIENCE, text=True)
+        same("what curl complains of", (ended.returncode, ended.stderr), (0, ""))
+        same("what curl says of its transfers", ended.stdout.split("\n")[:-1], CURL_SAYS)
+        bodies = [read(place) for place in places]
+    made, head = record(bodies[0], "P"), bodies.pop(2)
+    same("the last line of what HEAD gets", head.split(b"\r\n")[-3:], [b"Content-Length: 36", b"", b""])
+    errors = [(ERROR % text).encode() for text in ("bad-json", "unknown-coding", "unknown-project")]
+    same("what curl got", bodies[1:], [made, errors[0], made, errors[1], errors[2]])
+    bridge.check_end(0, 6, REFUSED)
+    bridge.check_end(1, 0, "")
+
+
+# the status, and the connections made for it: the session stays on one connection until it is refused
+CURL_SAYS = ["201 1", "200 0", "404 0", "400 0", "200 0", "501 0", "404 1"]
+
+
+def curl_requests():
+    """What curl is told for each request beside the URL, and the path."""
+    json_type = ["-H", "Content-Type: application/json"]
+    return [
+        ([*json_type, "--data-binary", '{"name":"P"}'], "/projects"),
+        ([], PROJECT),
+        (["--head"], "/projects"),
+        ([*json_type, "--data-binary", "{"], "/projects"),
+        ([], PROJECT),
+        (["-H", "Transfer-Encoding: chunked", "--data-binary", "{}"], "/projects"),
+        ([], PROJECT),
+    ]
+
+
+def read(place):
+    """The file's content, or nothing where curl had no body to write."""
+    if not os.path.exists(place):
+        return b""
+    with open(place, "rb") as it:
+        return it.read()
+
+
+def main():
+    program, started = program_named(), time.monotonic()
+    sessions = [session_of_http_client, each_connection_starts_anew]
+    if shutil.which("curl"):
+        sessions.append(session_of_curl)
+    else:
+        print("client: the session by curl is skipped: there is no curl on PATH")
+    count, failures = 0, []
+    for session in sessions:
+        for piece in (65536, 1):
+            bridge, count = Bridge(program, piece), count + 1
+            try:
+                session(bridge)
+            except (Wrong, OSError, ValueError, http.client.HTTPException, subprocess.TimeoutExpired) as why:
+                failures.append(f"{session.__name__}, {piece} bytes at a time: {type(why).__name__}: {why}")
+            bridge.close()
+    conclude("client", count, started, failures)
+
+
+if __name__ == "__main__":
+    main()

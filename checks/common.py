@@ -1,0 +1,191 @@
+"""What the outside checks share: runs of the built program, and the judgement of what it wrote.
+
+An expected response is its bytes with DATE where the moment of its Date stands and CREATED where a project's `created`
+stands. Both are as long as what they stand for, so each other byte is compared at its own place.
+"""
+
+import calendar
+import email.utils
+import json
+import os
+import re
+import subprocess
+import sys
+import tempfile
+import time
+
+# no response has a control byte but CR and LF, so these can't be mistaken for something that was written
+DATE = "\1" * len("Sat, 01 Jan 2000 00:00:00 GMT")
+CREATED = "\2" * len("2000-01-01T00:00:00.000Z")
+
+# seconds that one run of the program may take before it counts as hanging
+PATIENCE = 20
+# when a check gives up, on the clock that only goes forward: each ends by itself within a minute of its start
+DEADLINE = time.monotonic() + 55
+
+REFUSED = "sysapi: request refused\n"
+CUT_SHORT = "sysapi: input cut short\n"
+
+
+class Wrong(Exception):
+    """Something that the program did and should not have done."""
+
+
+class Run:
+    """One run of the program: what it wrote, its status, and the clock in milliseconds before and after it."""
+
+    def __init__(self, output, complaint, status, taken, before, after):
+        self.output = output
+        self.complaint = complaint
+        self.status = status
+        self.taken = taken
+        self.before = before
+        self.after = after
+
+
+def program_named():
+    """The program that the command line names, else the one that a build leaves in this repository."""
+    top = os.path.dirname(os.path.dirname(os.path.abspath(__file__)))
+    path = sys.argv[1] if len(sys.argv) > 1 else os.path.join(top, "crates", "sysapi", "out", "sysapi")
+    if not os.access(path, os.X_OK):
+        sys.exit(f"no program at {path}: ./sysapi - once </dev/null builds it")
+    return os.path.abspath(path)
+
+
+def milliseconds():
+    return time.time_ns() // 1_000_000
+
+
+def run(program, words, stream):
+    """Runs the program with these words on these bytes.
+
+    The bytes come from a file, whose place the two processes share: `taken` is how many of them the program read."""
+    with tempfile.TemporaryFile() as source:
+        source.write(stream)
+        source.seek(0)
+        patience = min(PATIENCE, DEADLINE - time.monotonic())
+        if patience <= 0:
+            raise Wrong("not tried, as the time of this check was over")
+        before = milliseconds()
+        try:
+            ended = subprocess.run([program, *words], stdin=source, capture_output=True, timeout=patience)
+        except subprocess.TimeoutExpired:
+            raise Wrong(f"it had not ended after {patience:.0f} seconds") from None
+        return Run(
+            ended.stdout,
+            ended.stderr.decode("utf-8", "replace"),
+            ended.returncode,
+            os.lseek(source.fileno(), 0, os.SEEK_CUR),
+            before,
+            milliseconds(),
+        )
+
+
+def check_end(ran, status, complaint):
+    """The status, and standard error to the byte."""
+    if (ran.status, ran.complaint) != (status, complaint):
+        raise Wrong(f"status {ran.status} with {ran.complaint!r}, and not {status} with {complaint!r}")
+
+
+def check_responses(expected, ran):
+    """Standard output is the expected responses, joined, up to moments that are right and agree with one another."""
+    at, created = 0, {}
+    for place, wanted in enumerate(expected):
+        wanted = wanted.encode("utf-8")
+        wrote = ran.output[at : at + len(wanted)]
+        at += len(wanted)
+        try:
+            check_response(wanted, wrote, ran, created)
+        except Wrong as why:
+            raise Wrong(f"response {place}: {why}") from None
+    if at < len(ran.output):
+        raise Wrong(f"{len(expected)} responses, and then more: {ran.output[at:at + 80]!r}")
+
+
+def check_response(wanted, wrote, ran, created):
+    """One response: its bytes, and its moments."""
+    dates, moments = compared(wanted, wrote)
+    for date in dates:
+        if not ran.before // 1000 <= second_of_date(date) <= ran.after // 1000:
+            raise Wrong(f"Date {date} is not between the clock's readings before and after the run")
+    for moment in moments:
+        check_created(wrote, dates[0], moment, ran, created)
+
+
+def compared(wanted, wrote):
+    """Compares two responses byte for byte, and returns the texts that stand at DATE and at CREATED."""
+    found = {DATE[0]: [], CREATED[0]: []}
+    at = 0
+    for piece in re.findall(rb"\x01+|\x02+|[^\x01\x02]+", wanted):
+        here = wrote[at : at + len(piece)]
+        mark = chr(piece[0])
+        if mark in found:
+            found[mark].append(here.decode("latin-1"))
+        elif here != piece:
+            raise Wrong(f"{here!r} stands in the place of {piece!r}")
+        at += len(piece)
+    return found[DATE[0]], found[CREATED[0]]
+
+
+def check_created(wrote, date, moment, ran, created):
+    """A project is made at the moment of its request's Date, and shown with that moment ever after."""
+    head, _, body = wrote.partition(b"\r\n\r\n")
+    made = json.loads(body)["@id"]
+    if head.startswith(b"HTTP/1.1 201 "):
+        when = millisecond_of_created(moment)
+        if not ran.before <= when <= ran.after:
+            raise Wrong(f"created {moment} is not between the clock's readings before and after the run")
+        if when // 1000 != second_of_date(date):
+            raise Wrong(f"created {moment} and Date {date} are not one moment")
+        created[made] = moment
+    elif created.get(made) != moment:
+        raise Wrong(f"created {moment} is not the moment of the project's first response, {created.get(made)}")
+
+
+def second_of_date(text):
+    """The moment of an IMF-fixdate (RFC 9110, section 5.6.7), which must be in its exact form."""
+    parsed = email.utils.parsedate_tz(text)
+    second = calendar.timegm(parsed[:6] + (0, 0, 0)) if parsed else None
+    if second is None or email.utils.formatdate(second, usegmt=True) != text:
+        raise Wrong(f"Date {text!r} is no IMF-fixdate")
+    return second
+
+
+def millisecond_of_created(text):
+    """The moment of a time stamp with milliseconds (RFC 3339, in UTC), which must be in its exact form."""
+    found = re.fullmatch(r"(\d{4}-\d\d-\d\dT\d\d:\d\d:\d\d)\.(\d{3})Z", text, re.ASCII)
+    try:
+        second = calendar.timegm(time.strptime(found[1], "%Y-%m-%dT%H:%M:%S")) if found else None
+    except ValueError:
+        second = None
+    if second is None or time.strftime("%Y-%m-%dT%H:%M:%S", time.gmtime(second)) != found[1]:
+        raise Wrong(f"created {text!r} is no moment in its exact form")
+    return second * 1000 + int(found[2])
+
+
+def response(status, length, body, *more):
+    """A response from its status line's end, the length as the head tells it, the body, and further header lines."""
+    lines = [
+        f"HTTP/1.1 {status}",
+        f"Date: {DATE}",
+        "Content-Type: application/json",
+        f"Content-Length: {length}",
+        *more,
+        "",
+        body,
+    ]
+    return "\r\n".join(lines)
+
+
+def project_id(number):
+    """The id with this serial in repository 1."""
+    return f"00000000-0001-8000-8000-{number:012x}"
+
+
+def conclude(name, count, started, failures):
+    """Tells what was found, and ends the check with its status."""
+    for failure in failures[:20]:
+        print(f"{name}: WRONG: {failure}")
+    seconds = time.monotonic() - started
+    print(f"{name}: {count - len(failures)} held, {len(failures)} did not, in {seconds:.1f} s", flush=True)
+    sys.exit(1 if failures else 0)

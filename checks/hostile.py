@@ -1,0 +1,217 @@
+"""Streams that nobody would send: the program ends each by itself, with a status of its own and whole responses alone.
+
+The streams are drawn with a fixed seed, so each run of this check makes the same ones. What is right for a stream comes from
+model.py: the responses that it gets, at most one a request, and the status and the line on standard error at its end.
+Usage: hostile.py [PROGRAM]
+"""
+
+import concurrent.futures
+import json
+import os
+import random
+import time
+
+import model
+from common import Wrong, check_end, check_responses, conclude, program_named, project_id, run
+
+SEED = 20_000_101
+
+POST_P = b'POST /projects HTTP/1.1\r\nHost: h\r\nContent-Length: 12\r\n\r\n{"name":"P"}'
+GET_0 = f"GET /projects/{project_id(0)} HTTP/1.1\r\nHost: h\r\n\r\n".encode()
+HEAD = b"HEAD /projects HTTP/1.1\r\nHost: h\r\n\r\n"
+NO_ROUTE = b"PUT /projects?x HTTP/1.1\nhost:h\nConnection: Keep-Alive\ncontent-length: 4\n\nbody"
+ABSOLUTE = b"GET http://h/projects HTTP/1.1\r\nHost: h\r\n\r\n"
+BAD_BODY = b"POST /projects?a=b?c HTTP/1.1\r\nHost: h\r\nAccept: */*\r\nContent-Length: 1\r\n\r\n{"
+CHUNKED = b"POST /projects HTTP/1.1\r\nHost: h\r\nTransfer-Encoding: chunked\r\n\r\n2\r\n{}\r\n0\r\n\r\n"
+OLD = b"GET /projects HTTP/1.0\r\nHost: h\r\n\r\n"
+REQUESTS = [POST_P, POST_P, GET_0, HEAD, NO_ROUTE, ABSOLUTE, BAD_BODY, CHUNKED, OLD]
+GOOD = POST_P + GET_0 + HEAD + NO_ROUTE + ABSOLUTE + BAD_BODY + POST_P + GET_0
+
+# bytes that mean something in a head or in a document, and a few that never do
+TELLING = b"\r\n\r\n  \t:/?#{}[]\",\\0159-+.eEpPHh\x00\x7f\x80\xc3\xff"
+
+
+def post(body):
+    return b"POST /projects HTTP/1.1\r\nHost: h\r\nContent-Length: %d\r\n\r\n" % len(body) + body
+
+
+def early_bytes():
+    """Every byte value in every place of a request line and a first field."""
+    stream = POST_P + GET_0
+    for place in range(stream.index(b"Content-Length")):
+        for value in range(256):
+            yield f"byte {value} at {place}", stream[:place] + bytes([value]) + stream[place + 1 :]
+
+
+def late_bytes():
+    """Every byte value in every place of a body, where the session goes on after each."""
+    body = b'{"name":"P"}'
+    for place in range(len(body)):
+        mutants = [body[:place] + bytes([value]) + body[place + 1 :] for value in range(256)]
+        yield f"each byte at {place} of the body", b"".join(map(post, mutants)) + GET_0
+
+
+def cuts():
+    """Streams that end after each byte, and streams that begin at each."""
+    for place in range(len(GOOD)):
+        yield f"cut at {place}", GOOD[:place]
+        yield f"begun at {place}", GOOD[place:]
+
+
+def doubled():
+    """Requests again and again, whole or in parts that overlap."""
+    for place, request in enumerate(REQUESTS):
+        for times in (2, 3, 100):
+            yield f"request {place}, {times} times", request * times
+        for end in range(1, len(request), 7):
+            yield f"{end} bytes of request {place}, and then all of it", request[:end] + request
+
+
+def mutated(draws):
+    """Requests with a few bytes changed, dropped, added, moved or repeated."""
+    for number in range(3000):
+        stream = bytearray(b"".join(draws.choices(REQUESTS, k=draws.randint(1, 6))))
+        for _ in range(draws.randint(1, 4)):
+            mutate(draws, stream)
+        yield f"mutant {number}", bytes(stream)
+
+
+def mutate(draws, stream):
+    """One change of a few bytes."""
+    at = draws.randrange(len(stream) + 1)
+    some = draws.randint(1, 8)
+    kind = draws.randrange(5)
+    if kind == 0:
+        stream[at : at + 1] = bytes([draws.choice(TELLING)])
+    elif kind == 1:
+        del stream[at : at + some]
+    elif kind == 2:
+        stream[at:at] = bytes(draws.choices(TELLING, k=some))
+    elif kind == 3:
+        stream[at:at] = stream[at : at + 10 * some]
+    else:
+        piece = stream[at : at + some]
+        del stream[at : at + some]
+        elsewhere = draws.randrange(len(stream) + 1)
+        stream[elsewhere:elsewhere] = piece
+
+
+def noise(draws):
+    """Bytes at random: of every value, and of the values that mean something."""
+    for number in range(300):
+        length = draws.choice((1, 2, 3, 8, 40, 300, 5000))
+        yield f"noise {number}", POST_P * draws.randrange(2) + draws.randbytes(length)
+        yield f"telling noise {number}", POST_P * draws.randrange(2) + bytes(draws.choices(TELLING, k=length))
+
+
+def long_heads():
+    """Heads about as long as a head may be, with each part of them grown in turn."""
+    line, host, end = b"GET /project HTTP/1.1\r\n", b"Host: h\r\n", b"\r\n"
+    grown = {
+        "method": lambda n: b"G" * n + line + host + end,
+        "target": lambda n: line.replace(b"/project", b"/" + b"p" * n) + host + end,
+        "target of two bytes a letter": lambda n: line.replace(b"/project", "\u00e9".encode() * (n // 2)) + host + end,
+        "field name": lambda n: line + host + b"a" * n + b":b\r\n" + end,
+        "field value": lambda n: line + host + b"a:" + b"b" * n + b"\r\n" + end,
+        "blanks": lambda n: line + b"Host:" + b" " * n + b"h\r\n" + end,
+        "empty lines before": lambda n: b"\r\n" * (n // 2) + line + host + end,
+        "fields": lambda n: line + host + b"a:\n" * (n // 3) + end,
+        "no end": lambda n: line + host + b"a:" + b"b" * n,
+    }
+    for name, make in grown.items():
+        base = len(make(0))
+        for length in (100, 16_382, 16_383, 16_384, 16_385, 16_386, 40_000, 1_000_000):
+            yield f"{name} grown to a head of {length}", make(max(0, length - base)) + POST_P
+    for count in (63, 64, 65, 5000):
+        yield f"{count} fields", line + host + b"a:b\r\n" * (count - 1) + end + POST_P
+
+
+def lengths():
+    """Bodies of the lengths that a head may tell, and of those that it may not."""
+    for told in (b"0", b"00", b"1", b"67108864", b"67108865", b"4294967296", b"9" * 400, b"-1", b"0x1", b"1 ", b"1,1", b""):
+        yield f"a told length of {told!r}", b"POST /projects HTTP/1.1\r\nHost: h\r\nContent-Length: " + told + b"\r\n\r\n{}" + GET_0
+    for size in (4_000, 4_096, 65_536, 5_000_000):
+        yield f"a name of {size} bytes", post(b'{"name":"' + b"n" * size + b'"}') + GET_0
+        yield f"a name of {size} escapes", post(b'{"name":"' + b"\\u0001" * size + b'"}') + GET_0
+
+
+def documents(draws):
+    """Deep documents, wide ones, ones at random, and these with a few bytes changed."""
+    for deep in (1, 98, 99, 100, 101, 125, 126, 127, 128, 1000, 100_000):
+        for opening, closing in ((b"[", b"]"), (b'{"a":', b"}")):
+            middle = b"" if opening == b"[" else b"1"
+            nested = opening * deep + middle + closing * deep
+            again = post(b'{"x":' + nested + b',"x":1}')
+            yield f"{deep} nested", post(b'{"x":' + nested + b"}") + again + post(nested) + post(opening * deep) + GET_0
+    for wide in (1000, 100_000):
+        yield f"{wide} keys", post(b"{" + b",".join(b'"%d":%d' % (it, it) for it in range(wide)) + b"}") + GET_0
+        yield f"{wide} equal keys", post(b'{"name":"Q"' + b',"name":"P"' * wide + b"}") + GET_0
+        yield f"{wide} members", post(b'{"x":[' + b"null," * wide + b'{}],"name":"P"}') + GET_0
+    for number in range(100):
+        bodies = [drawn_body(draws) for _ in range(20)]
+        yield f"documents {number}", b"".join(map(post, bodies)) + GET_0
+
+
+def drawn_body(draws):
+    """A body that is mostly right, as Python writes it, at times with a few bytes changed."""
+    shown = {key: drawn_value(draws, 3) for key in draws.sample(["name", "description", "x", "@id", "\u00e9\n"], draws.randint(0, 4))}
+    for key in ("name", "description"):
+        if key in shown and draws.random() < 0.8:
+            shown[key] = drawn_text(draws)
+    body = json.dumps(shown, ensure_ascii=draws.random() < 0.5, indent=draws.choice((None, 0, 2)))
+    body = bytearray(body.encode("utf-8", "surrogatepass"))
+    if draws.random() < 0.4:
+        mutate(draws, body)
+    return bytes(body)
+
+
+def drawn_value(draws, deep):
+    """A document; at times one with a number that isn't whole, or out of range."""
+    kind = draws.randrange(8 if deep else 6)
+    if kind == 6:
+        return [drawn_value(draws, deep - 1) for _ in range(draws.randrange(4))]
+    if kind == 7:
+        return {drawn_text(draws): drawn_value(draws, deep - 1) for _ in range(draws.randrange(4))}
+    edge = draws.choice((0, 1, -1, 2**63, -(2**63), 2**64 - 1, 2**64, -(2**63) - 1, 10**25))
+    plain = (None, True, False, drawn_text(draws), edge, 1.5 if draws.random() < 0.1 else 7)
+    return plain[kind]
+
+
+def drawn_text(draws):
+    """A text of letters that are written as they are, as escapes, or in several bytes."""
+    letters = "ab\"\\/\b\f\n\r\t\x00\x1f\x7f\u00e9\u2028\uffff\U0001f600"
+    surrogate = "\ud800" if draws.random() < 0.02 else ""
+    return "".join(draws.choices(letters, k=draws.randrange(12))) + surrogate
+
+
+def streams():
+    draws = random.Random(SEED)
+    for group in (early_bytes, late_bytes, cuts, doubled, long_heads, lengths):
+        yield from group()
+    for group in (mutated, noise, documents):
+        yield from group(draws)
+
+
+def check(program, name, stream):
+    """Returns what is wrong with the program's run on this stream, if anything is."""
+    try:
+        ran = run(program, ("-", "once"), stream)
+        responses, status, complaint = model.session(stream)
+        check_responses(responses, ran)
+        check_end(ran, status, complaint)
+    except Wrong as why:
+        return f"{name}, {stream[:200]!r}: {why}"
+    return None
+
+
+def main():
+    program, started = program_named(), time.monotonic()
+    every = list(streams())
+    with concurrent.futures.ThreadPoolExecutor(os.cpu_count()) as pool:
+        found = pool.map(lambda it: check(program, *it), every)
+        failures = [it for it in found if it]
+    conclude("hostile", len(every), started, failures)
+
+
+if __name__ == "__main__":
+    main()
