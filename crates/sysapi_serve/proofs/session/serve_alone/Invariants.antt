@@ -1,0 +1,19 @@
+use Rattle.std.proofs.Common.{◌≡◌, ◌+◌, ◌-◌, ◌*◌, ◌^◌, ◌≤◌, length}
+use Rattle.sysapi_serve.specs.declared.session.TheConstants.{BYTES_MOST, PIECE}
+use Rattle.sysapi_serve.proofs.SendLemmas.{HasPassed}
+use Rattle.sysapi_serve.proofs.SessionLemmas.{IsRunning}
+use Rattle.sysapi_serve.proofs.session.serve_alone.Given as goal
+
+abbrev pub invariant-turns : goal.invariant-turns
+invariant-turns g l = record {
+  running : IsRunning l.fn.repo l.repo (g.S.Source.left l.fn.source) (g.S.Source.left l.source) (g.K.Sink.taken l.fn.sink) (g.K.Sink.taken l.sink) (g.C.Clock.readings l.fn.clock) (g.C.Clock.readings l.clock) l.total l.answered l.feed;
+  fits : l.answered + length l.feed ≤ l.total;
+  within : l.total ≤ BYTES_MOST + PIECE;
+  room : length l.piece ≡ PIECE;
+  few : length l.repo.history ≤ 2 ^ 35 + l.answered;
+  source : HasPassed g.S.Source.faults g.S.Source.IsSteady l.fn.source l.source;
+  sink : HasPassed g.K.Sink.faults g.K.Sink.IsSteady l.fn.sink l.sink;
+}
+
+abbrev pub decreases-turns : goal.decreases-turns
+decreases-turns g l = 2 * (BYTES_MOST + PIECE - l.total) + length l.feed

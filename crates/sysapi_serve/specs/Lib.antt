@@ -1,0 +1,10 @@
+pub mod Histories
+pub mod Replies
+pub mod Routes
+pub mod Texts
+pub mod Sessions
+pub mod Kept
+pub mod Alone
+pub mod Parts
+pub mod Offline
+pub mod Laws

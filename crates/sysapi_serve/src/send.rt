@@ -1,0 +1,18 @@
+//! Texts on their way to the sink.
+
+ghost use Rattle.sysapi_base.specs.Outside.{Passes};
+ghost use Rattle.sysapi_serve.specs.Parts.{Sends};
+
+use sysapi_base::{Failed, Sink};
+
+/// Writes all of the text, or the part of it before a fault.
+pub(crate) fn send<K: Sink>(sink: &mut K, text: &[u8]) -> Result<(), Failed>
+    ensures sent { Sends (K.taken sink.old) (K.taken sink.new) text.now result }
+    ensures passes { Passes K.faults K.IsSteady sink.old sink.new result }
+{
+    let mut at = 0;
+    while at < text.len() {
+        at += sink.write(&text[at..])?;
+    }
+    Ok(())
+}

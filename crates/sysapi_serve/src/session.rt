@@ -1,0 +1,81 @@
+//! The session: turn by turn a request is answered, or more is read.
+
+ghost use Rattle.std.specs.Prelude.{◌≡◌, ◌⊎◌, ◌<◌, ◌^◌, ◌++◌, ℕ, List, length};
+ghost use Rattle.std.specs.Io.KnownBytes.{Consumes, IsAtEnd};
+ghost use Rattle.sysapi_base.specs.Outside.{Grows, Passes};
+ghost use Rattle.sysapi_serve.specs.Sessions.{IsSession, IsAlone, IsFaultless};
+ghost use Rattle.sysapi_serve.specs.Alone.{unbounded, IsServed};
+ghost use Rattle.sysapi_serve.specs.Parts.{read_result, write_result};
+
+use crate::outcome::{Outcome, Served};
+use crate::repo::Repo;
+use crate::turn::{More, Turn, close_busy, read_more, take_turn};
+use http_wire::Feed;
+use std::alloc::Global;
+use sysapi_base::{Clock, Sink, Source};
+
+/// So many bytes are read at most at a time.
+pub const PIECE: usize = 65_536;
+
+/// After so many bytes no more are read.
+pub const BYTES_MOST: u64 = 1_099_511_627_776;
+
+/// Answers the requests of the source, one after another, until it ends, or until one can't be read or answered.
+pub fn serve_alone<S: Source, K: Sink, C: Clock>(
+    alloc: Global,
+    repo: &mut Repo,
+    source: &mut S,
+    sink: &mut K,
+    clock: &mut C,
+) -> Served
+    requires { length repo.old.history < 2 ^ 35 }
+    ensures session { IsServed repo.old repo.new (S.left source.old) (S.left source.new) (K.taken sink.old) (K.taken sink.new)
+        (C.readings clock.old) (C.readings clock.new) result }
+    ensures ended { result.outcome ≡ Outcome.Ended ⊎ (result.outcome ≡ Outcome.CutShort) → IsAtEnd (S.left source.new) }
+    ensures source { Passes S.faults S.IsSteady source.old source.new (read_result result.outcome) }
+    ensures sink { Passes K.faults K.IsSteady sink.old sink.new (write_result result.outcome) }
+{
+    let mut feed = Feed::new(alloc);
+    let mut piece = [0; PIECE];
+    let mut total = 0;
+    let mut answered = 0;
+    'turns: loop {
+        match take_turn(alloc, repo, &mut feed, sink, clock) {
+            Turn::Answered => answered += 1,
+            Turn::Ends(outcome) => return Served { outcome, answered },
+            Turn::Waits => {
+                if total >= BYTES_MOST {
+                    return Served {
+                        outcome: Outcome::Spent,
+                        answered,
+                    };
+                }
+                match read_more(&mut feed, source, &mut piece) {
+                    More::Got(n) => total += n,
+                    More::End if feed.is_empty() => {
+                        return Served {
+                            outcome: Outcome::Ended,
+                            answered,
+                        };
+                    }
+                    More::End => {
+                        return Served {
+                            outcome: Outcome::CutShort,
+                            answered,
+                        };
+                    }
+                    More::Fault => {
+                        return Served {
+                            outcome: Outcome::ReadFault,
+                            answered,
+                        };
+                    }
+                    More::NoMemory => {
+                        let outcome = close_busy(sink, clock.now());
+                        return Served { outcome, answered };
+                    }
+                }
+            }
+        }
+    }
+}
