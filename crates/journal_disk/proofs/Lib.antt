@@ -1,0 +1,12 @@
+pub mod Torn
+pub mod Moments
+pub mod Calls
+pub mod Formats
+pub mod Kept
+pub mod Images
+pub mod Memories
+pub mod Fills
+pub mod Pieces
+pub mod Heads
+pub mod Openings
+pub mod Judged

@@ -1,0 +1,13 @@
+use Rattle.std.proofs.Common.{sym, ◌∙◌}
+use Rattle.journal_disk.proofs.Kept as lem
+use Rattle.journal_disk.proofs.journal.Journal.create.Goals as goal
+
+pub invariant_of-result : goal.invariant_of-result
+invariant_of-result g c =
+    let all = lem.ok_of c.write_empty.result (sym c.is_err.ensures.value ∙ c.if-is_err.false) c.write_empty.ensures.ok in
+    lem.made c.args.repository c.args.room c.new.result.items c.requires.number c.requires.most c.new.ensures.items all
+
+pub returns-clause-images : goal.returns-clause-images
+returns-clause-images g c =
+    let all = lem.ok_of c.write_empty.result (sym c.is_err.ensures.value ∙ c.if-is_err.false) c.write_empty.ensures.ok in
+    λ f now. lem.made_has c.args.repository f c.requires.number (all f now)

@@ -1,0 +1,15 @@
+pub mod Disk
+pub mod Faults
+pub mod Format
+pub mod Opening
+pub mod Finding
+pub mod Keeper
+pub mod Journal
+pub mod JournalLaws
+pub mod Opened
+pub mod Memory
+pub mod MemoryLaws
+pub mod Reading
+pub mod MemoryKeeper
+pub mod FileDisk
+pub mod Example
