@@ -1,8 +1,9 @@
 """How fast the built program serves long streams, whether twice the stream takes twice the time, and in how much memory.
 
-For each kind of stream, of N and of 2N requests, it prints one row: requests a second, the program's and the yardstick's
-(bench/yardstick.py), the ratio of their times, the time for 2N over the time for N, and the program's peak of resident memory.
-Times are those of the fastest of a few runs. Starting up doesn't count: the program's time is less that of an empty stream.
+For each kind of stream, of N and of 2N requests, it prints one row: the requests a second by the clock on the wall, the
+processor time of a request, that time over the yardstick's (bench/yardstick.py), the processor time for 2N over that for N, and
+the program's peak of resident memory. Each time is the least of a few runs; processor time is told because other work on the
+machine changes it least. Starting up doesn't count: the program's times are less those of an empty stream.
 Usage: once.py [--requests N] [--rounds N] [PROGRAM]
 """
 
@@ -45,27 +46,42 @@ class Stream:
 STREAMS = [Stream("projects", b"", POST, 201), Stream("reads of one project", POST, GET, 200)]
 
 
-def run(words, source):
-    """One run on this file: how long it took, what it wrote, in a file, and what it said on standard error."""
-    output = tempfile.TemporaryFile()
-    source.seek(0)
-    began = time.perf_counter()
-    ended = subprocess.run(words, stdin=source, stdout=output, stderr=subprocess.PIPE)
-    took = time.perf_counter() - began
-    if ended.returncode:
-        sys.exit(f"{words} ended with status {ended.returncode}: {ended.stderr.decode()}")
-    return took, output, ended.stderr
+class Lane:
+    """Runs of one command on one file: the least times, and what the last run wrote and said, in files."""
+
+    def __init__(self, words, source):
+        self.words = words
+        self.source = source
+        self.wall = self.processor = float("inf")
+
+    def run(self):
+        self.output, self.said = tempfile.TemporaryFile(), tempfile.TemporaryFile()
+        self.source.seek(0)
+        began = time.perf_counter()
+        ran = subprocess.Popen(self.words, stdin=self.source, stdout=self.output, stderr=self.said)
+        _, status, usage = os.wait4(ran.pid, 0)
+        self.wall = min(self.wall, time.perf_counter() - began)
+        self.processor = min(self.processor, usage.ru_utime + usage.ru_stime)
+        ran.returncode = os.waitstatus_to_exitcode(status)
+        self.said.seek(0)
+        if ran.returncode:
+            sys.exit(f"{self.words} ended with status {ran.returncode}: {self.said.read().decode()}")
 
 
-def fastest(words, source, rounds):
-    """The least time of some runs, and what the last of them wrote."""
-    runs = [run(words, source) for _ in range(rounds)]
-    return min(took for took, _, _ in runs), runs[-1][1]
+class Yardstick(Lane):
+    """Runs of the yardstick, which tells its processor time itself, without Python's start."""
+
+    def run(self):
+        told, self.processor = self.processor, float("inf")
+        super().run()
+        self.processor = min(told, float(self.said.read()))
 
 
-def fastest_yardstick(words, source, rounds):
-    """The least time of some runs of the yardstick, by its own clock."""
-    return min(float(run(words, source)[2]) for _ in range(rounds))
+def take_turns(lanes, rounds):
+    """Runs each lane in turn, again and again, so that what else the machine does meets all of them alike."""
+    for _ in range(rounds):
+        for lane in lanes:
+            lane.run()
 
 
 def peak_memory(words, source, size):
@@ -84,25 +100,23 @@ def peak_memory(words, source, size):
     return int(told[0][1]) * 1024
 
 
-class Figures:
-    """What one kind of stream of one length took."""
-
-    def __init__(self, stream, count, words, yardstick, rounds, start):
-        with tempfile.TemporaryFile() as source:
-            stream.write(count, source)
-            took, output = fastest(words, source, rounds)
-            stream.check(count, output)
-            self.stream, self.count = stream, count
-            self.took = took - start
-            self.yardstick = fastest_yardstick(yardstick, source, rounds)
-            self.memory = peak_memory(words, source, os.fstat(output.fileno()).st_size)
-
-    def row(self, half):
-        ratio = f"{self.took / half.took:.2f}" if half else ""
-        return (
-            f"| {self.stream.name} | {self.count:,} | {self.count / self.took:,.0f} | {self.count / self.yardstick:,.0f} "
-            f"| {self.took / self.yardstick:.2f} | {ratio} | {self.memory / 2**20:.1f} |"
+def rows(stream, counts, words, yardstick, rounds, start):
+    """The table's rows for one kind of stream, of each of these lengths."""
+    sources = [tempfile.TemporaryFile() for _ in counts]
+    for count, source in zip(counts, sources):
+        stream.write(count, source)
+    lanes, others = [Lane(words, it) for it in sources], [Yardstick(yardstick, it) for it in sources]
+    take_turns(lanes + others, rounds)
+    half = None
+    for count, lane, other in zip(counts, lanes, others):
+        stream.check(count, lane.output)
+        memory = peak_memory(words, lane.source, os.fstat(lane.output.fileno()).st_size)
+        processor = lane.processor - start.processor
+        yield (
+            f"| {stream.name} | {count:,} | {count / (lane.wall - start.wall):,.0f} | {processor / count * 1e6:.2f} "
+            f"| {processor / other.processor:.2f} | {f'{processor / half:.2f}' if half else ''} | {memory / 2**20:.1f} |"
         )
+        half = processor
 
 
 def processor():
@@ -118,7 +132,7 @@ def processor():
 def main():
     asked = argparse.ArgumentParser(description="Measures the built program on long streams of requests.")
     asked.add_argument("--requests", type=int, default=20_000, metavar="N", help="requests of the shorter stream (20,000)")
-    asked.add_argument("--rounds", type=int, default=5, metavar="N", help="runs of which the fastest counts (5)")
+    asked.add_argument("--rounds", type=int, default=7, metavar="N", help="runs of which the fastest counts (7)")
     asked.add_argument("program", nargs="?", default=PROGRAM, metavar="PROGRAM")
     asked = asked.parse_args()
     if not os.access(asked.program, os.X_OK):
@@ -126,17 +140,14 @@ def main():
     words = [os.path.abspath(asked.program), "-", "once"]
     yardstick = [sys.executable, os.path.join(HERE, "yardstick.py")]
     name = subprocess.run([*yardstick, "--name"], stdout=subprocess.PIPE, text=True, check=True).stdout.strip()
-    with tempfile.TemporaryFile() as empty:
-        start = fastest(words, empty, asked.rounds)[0]
-    print(f"{processor()}, {os.cpu_count()} processors; yardstick: {name}; fastest of {asked.rounds} runs\n")
-    print("| stream | requests | requests/s | yardstick's | time / yardstick's | time 2N / N | peak memory, MiB |")
+    start = Lane(words, tempfile.TemporaryFile())
+    take_turns([start], asked.rounds)
+    print(f"{processor()}, {os.cpu_count()} processors; yardstick: {name}; least of {asked.rounds} runs\n")
+    print("| stream | requests | requests/s | processor µs a request | over the yardstick's | 2N over N | peak memory, MiB |")
     print("|---|---:|---:|---:|---:|---:|---:|")
     for stream in STREAMS:
-        half = None
-        for count in (asked.requests, 2 * asked.requests):
-            figures = Figures(stream, count, words, yardstick, asked.rounds, start)
-            print(figures.row(half), flush=True)
-            half = figures
+        for row in rows(stream, (asked.requests, 2 * asked.requests), words, yardstick, asked.rounds, start):
+            print(row, flush=True)
 
 
 if __name__ == "__main__":

@@ -1,8 +1,8 @@
 """A yardstick for bench/once.py: reads the same requests, reads their JSON, and answers each by one write of fixed bytes.
 
 It keeps nothing, checks nothing and looks nothing up: what is left is the least that such a server in Python does, with the
-fastest reader of JSON that is installed. It prints the seconds that it took, without Python's start, on standard error;
-`--name` prints which reader it has.
+fastest reader of JSON that is installed. It prints the seconds of processor time that it took, without Python's start, on
+standard error; `--name` prints which reader it has.
 """
 
 import os
@@ -58,9 +58,9 @@ def main():
     if sys.argv[1:] == ["--name"]:
         print(f"Python {sys.version.split()[0]} with {reader.__name__}")
         return
-    began = time.perf_counter()
+    began = time.process_time()
     serve()
-    print(time.perf_counter() - began, file=sys.stderr)
+    print(time.process_time() - began, file=sys.stderr)
 
 
 if __name__ == "__main__":

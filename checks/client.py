@@ -5,6 +5,7 @@ gives each connection that it accepts a program of its own. Every response must 
 Usage: client.py [PROGRAM]
 """
 
+import contextlib
 import email.utils
 import http.client
 import json
@@ -54,15 +55,24 @@ class Bridge:
             self.started.append(it)
             inward = threading.Thread(target=self.hand_in, args=(connection, it.stdin), daemon=True)
             inward.start()
-            for written in iter(lambda: it.stdout.read(65536), b""):
-                connection.sendall(written)
-            # the peer sees the end, and is read to its own, so that nothing that was written is lost on its way
-            connection.shutdown(socket.SHUT_WR)
+            self.hand_out(connection, it)
             inward.join(PATIENCE)
             end = (it.wait(), it.stderr.read().decode("utf-8", "replace"))
         with self.served:
             self.ends.append(end)
             self.served.notify_all()
+
+    @staticmethod
+    def hand_out(connection, it):
+        """Copies what the program writes; then the peer sees the end, and is read to its own, so that it misses nothing."""
+        try:
+            for written in iter(lambda: it.stdout.read(65536), b""):
+                connection.sendall(written)
+        except OSError:
+            # (the peer left, and says itself what it missed)
+            it.kill()
+        with contextlib.suppress(OSError):
+            connection.shutdown(socket.SHUT_WR)
 
     def hand_in(self, connection, to):
         """Copies what the peer sends until it ends; what comes after the program's end is dropped."""

@@ -6,6 +6,7 @@ Usage: hostile.py [PROGRAM]
 """
 
 import concurrent.futures
+import itertools
 import json
 import os
 import random
@@ -204,13 +205,21 @@ def check(program, name, stream):
     return None
 
 
+def check_share(program, number, of):
+    """Checks each of-th stream from this number on; returns how many there are and what is wrong."""
+    share = itertools.islice(streams(), number, None, of)
+    found = [check(program, name, stream) for name, stream in share]
+    return len(found), [it for it in found if it]
+
+
 def main():
     program, started = program_named(), time.monotonic()
-    every = list(streams())
-    with concurrent.futures.ThreadPoolExecutor(os.cpu_count()) as pool:
-        found = pool.map(lambda it: check(program, *it), every)
-        failures = [it for it in found if it]
-    conclude("hostile", len(every), started, failures)
+    workers = os.cpu_count() or 1
+    with concurrent.futures.ProcessPoolExecutor(workers) as pool:
+        shares = [pool.submit(check_share, program, number, workers) for number in range(workers)]
+        done = [it.result() for it in shares]
+    failures = [it for _, some in done for it in some]
+    conclude("hostile", sum(count for count, _ in done), started, failures)
 
 
 if __name__ == "__main__":

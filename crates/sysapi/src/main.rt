@@ -4,10 +4,10 @@
 //! is built. The words behind it say what to do.
 #![tactic(auto)]
 
-use std::alloc::Global;
 use std::env;
 use std::io::{ErrorKind, Write};
 use std::process::ExitCode;
+use std::rt::Env;
 use sysapi_base::{StreamSink, StreamSource, SystemClock};
 use sysapi_serve::run_offline;
 
@@ -16,6 +16,12 @@ const CANNOT_OPEN: u8 = 1;
 
 /// The status where no memory was found.
 const NO_MEMORY: u8 = 3;
+
+/// Whether the first word is `-`.
+fn is_memory(rt: &impl Env) -> bool {
+    let mut word = [0; 2];
+    matches!(rt.arg(1, &mut word), Ok(1)) && word[0] == b'-'
+}
 
 /// Tells why the program ends, with its status.
 fn fail(rt: &impl Eprint, complaint: &str, status: u8) -> ExitCode {
@@ -34,7 +40,11 @@ fn main(rt: HostRuntime) -> ExitCode {
             if error.kind() == ErrorKind::OutOfMemory {
                 return fail(&rt, "out of memory", NO_MEMORY);
             }
-            // A word that is no text is in no language, and neither is the empty list.
+            // One of the words is no text. As the first it can't be opened; behind it, it is in no language, and neither is
+            // the empty list.
+            if !is_memory(&rt) {
+                return fail(&rt, "cannot open", CANNOT_OPEN);
+            }
             Vec::new(alloc)
         }
     };
