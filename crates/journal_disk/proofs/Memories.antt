@@ -4,7 +4,8 @@ use Rattle.std.proofs.lemmas.Bool.{cases_lt, lt-ltb, le-ltb}
 use Rattle.std.proofs.lemmas.List.{append-nil, take_more, take-append-le, take_all, drop_all, drop-drop, length-replicate}
 use Rattle.std.specs.declared.alloc.Global.{Global}
 use Rattle.journal_disk.specs.Disk.{Torn, Cut, written}
-use Rattle.journal_disk.specs.Memory.{Step, After, fill_step, fill_calls}
+use Rattle.journal_disk.specs.MemoryCalls.{Step, After, read_write, read_cut, read_step, read_calls}
+use Rattle.journal_disk.specs.Memory.{fill_step, fill_calls}
 use Rattle.journal_disk.specs.declared.memory.Call.{Call}
 use Rattle.journal_disk.specs.declared.memory.Call.TheVariants.{Write, Shorten, Sync}
 
@@ -43,6 +44,34 @@ torn_same at n d = record {
   len = omega (arith, length-take n (drop at d), length-drop at d);
 }
 
+-- what a read gives is one of the images: a whole write or cut, or none
+torn_read : (at : ℕ) (from : List ℕ) (done : Bool) (d : List ℕ) → Torn at (length from) d (read_write at from done d)
+torn_read at from true d = elim (cases_lt (length d) at) [
+  | inl lt ↦ rw (lt-ltb (length d) at lt) (torn_same at (length from) d)
+  | inr le ↦ rw (le-ltb (length d) at le) (torn_written at from d le)
+]
+torn_read at from false d = torn_same at (length from) d
+
+cut_same : (n : ℕ) (d : List ℕ) → Cut n d d
+cut_same n d = (drop n d, sym (take-append-drop n d))
+
+cut_read : (n : ℕ) (done : Bool) (d : List ℕ) → Cut n d (read_cut n done d)
+cut_read n true d = ([], sym (append-nil (take n d)))
+cut_read n false d = cut_same n d
+
+read_left : (call : Call) (P : List ℕ → Type 0) (d : List ℕ) → P d → Step call P (read_step call d)
+read_left (Write at from done) P d p = (d, p, torn_read at from.items done d)
+read_left (Shorten len done) P d p = (d, p, cut_read len done d)
+read_left (Sync bytes) P d p = refl
+
+reading_left : (calls : List Call) (P : List ℕ → Type 0) (d : List ℕ) → P d → After P calls (read_calls calls d)
+reading_left [] P d p = p
+reading_left (call ∷ calls) P d p = reading_left calls (Step call P) (read_step call d) (read_left call P d p)
+
+read-push : (calls : List Call) (call : Call) (d : List ℕ) → read_calls (calls ++ call ∷ []) d ≡ read_step call (read_calls calls d)
+read-push [] call d = refl
+read-push (x ∷ calls) call d = read-push calls call (read_step x d)
+
 module _ (first : List ℕ) where
   abbrev pub Now : Bool → List ℕ → List Call → List ℕ → Type 0
   Now told bytes calls c = IsTrue told × ((c ≡ bytes) ⊎ After (λ c. c ≡ first) calls c)
@@ -50,54 +79,71 @@ module _ (first : List ℕ) where
   abbrev pub Since : Bool → List ℕ → List Call → ℕ → List ℕ → Type 0
   Since told bytes calls t c = Now told bytes calls c ⊎ (IsTrue told × ((k : ℕ) × (t ≤ k) × (k < length calls) × After (λ c. c ≡ first) (take k calls) c))
 
-  module _ (told told' : Bool) (bytes bytes' : List ℕ) (calls calls' : List Call) (call : Call) (kept : IsTrue told' → IsTrue told × (calls' ≡ calls ++ call ∷ [])) where
+  module _ (told told' : Bool) (bytes bytes' : List ℕ) (calls calls' : List Call) (kept : IsTrue told' → IsTrue told × ((call : Call) × (calls' ≡ calls ++ call ∷ []))) where
+    take_kept : (k : ℕ) → k ≤ length calls → (now : IsTrue told') → take k calls' ≡ take k calls
+    take_kept k le now = let was = kept now in ap (λ (l : List Call). take k l) was.1.1 ∙ take-append-le k calls (was.1.0 ∷ []) le
+
+    one_more : IsTrue told' → length calls' ≡ length calls + 1
+    one_more now = let was = kept now in ap length was.1.1 ∙ length-append calls (was.1.0 ∷ [])
+
     pub time_push : (t : ℕ) (c : List ℕ) → t ≤ length calls → Since told' bytes' calls' t c → Since told bytes calls t c ⊎ Now told' bytes' calls' c
     time_push t c le (inl now) = inr now
     time_push t c le (inr past) =
         let was = kept past.0 in
         let k = past.1.0 in
-        let left = past.1.3 in
-        let short : k < length calls + 1 = omega (arith, past.1.2, ap length was.1, length-append calls (call ∷ [])) in
-        let same : take k calls' ≡ take k calls = ap (λ (l : List Call). take k l) was.1 ∙ take-append-le k calls (call ∷ []) (omega arith) in
-        let earlier : After (λ c. c ≡ first) (take k calls) c = subst (λ (l : List Call). After (λ c. c ≡ first) l c) same left in
+        let short : k < length calls + 1 = omega (arith, past.1.2, one_more past.0) in
+        let earlier : After (λ c. c ≡ first) (take k calls) c = subst (λ (l : List Call). After (λ c. c ≡ first) l c) (take_kept k (omega arith) past.0) past.1.3 in
         elim (cases_lt k (length calls)) [
           | inl lt ↦ inl (inr (was.0, (k, past.1.1, lt, earlier)))
           | inr ge ↦ inl (inl (was.0, inr (subst (λ (l : List Call). After (λ c. c ≡ first) l c) (take_all k calls ge) earlier)))
         ]
 
+    -- no image is forgotten
+    pub time_kept : IsTrue told' → (IsTrue told → bytes ≡ read_calls calls first) → (t : ℕ) (c : List ℕ) → t ≤ length calls → Since told bytes calls t c → Since told' bytes' calls' t c
+    time_kept now replayed t c le (inl left) =
+        let after : After (λ c. c ≡ first) calls c = ⊎_elim
+            (λ is. subst (After (λ c. c ≡ first) calls) (sym (is ∙ replayed left.0)) (reading_left calls (λ c. c ≡ first) first refl))
+            (λ after. after) left.1 in
+        let same : take (length calls) calls' ≡ calls = take_kept (length calls) (omega arith) now ∙ take_all (length calls) calls (omega arith) in
+        inr (now, (length calls, le, omega (arith, one_more now), subst (λ (l : List Call). After (λ c. c ≡ first) l c) (sym same) after))
+    time_kept now replayed t c le (inr past) =
+        let k = past.1.0 in
+        let lt : k < length calls = past.1.2 in
+        inr (now, (k, past.1.1, omega (arith, lt, one_more now), subst (λ (l : List Call). After (λ c. c ≡ first) l c) (sym (take_kept k (omega arith) now)) past.1.3))
+
+  module _ (told told' : Bool) (bytes bytes' : List ℕ) (calls calls' : List Call) (call : Call) where
     -- an image now is one before after the call's step
-    pub image_push : (c : List ℕ) → Now told' bytes' calls' c → IsTrue told × ((c ≡ bytes') ⊎ Step call (After (λ c. c ≡ first) calls) c)
-    image_push c now =
+    pub image_push : (IsTrue told' → IsTrue told × (calls' ≡ calls ++ call ∷ [])) → (c : List ℕ) → Now told' bytes' calls' c → IsTrue told × ((c ≡ bytes') ⊎ Step call (After (λ c. c ≡ first) calls) c)
+    image_push kept c now =
         let was = kept now.0 in
         (was.0, ⊎_elim (λ is. inl is) (λ left. inr (After-push (λ c. c ≡ first) calls call c (subst (λ (l : List Call). After (λ c. c ≡ first) l c) was.1 left))) now.1)
 
+    -- what a read gives follows from the calls
+    pub read_push : calls' ≡ calls ++ call ∷ [] → bytes ≡ read_calls calls first → bytes' ≡ read_step call bytes → bytes' ≡ read_calls calls' first
+    read_push more replayed step = step ∙ ap (read_step call) replayed ∙ sym (read-push calls call first) ∙ ap (λ (l : List Call). read_calls l first) (sym more)
+
   module _ (told told' : Bool) (bytes bytes' : List ℕ) (calls calls' : List Call) (at : ℕ) (done : Bool) where
-    pub write_image : (from : List ℕ) → (IsTrue told' → IsTrue told × (calls' ≡ calls ++ Write at (length from) done ∷ [])) → (IsTrue told' → (bytes' ≡ bytes) ⊎ ((at ≤ length bytes) × (bytes' ≡ written bytes at from)))
+    pub write_image : (from : List ℕ) → (IsTrue told' → IsTrue told × ((v : Vec ℕ Global) × (v.items ≡ from) × (calls' ≡ calls ++ Write at v done ∷ []))) → (IsTrue told' → bytes' ≡ read_write at from done bytes)
         → (c : List ℕ) → Now told' bytes' calls' c → (d : List ℕ) × Now told bytes calls d × Torn at (length from) d c
     write_image from kept does c now =
-        let before = image_push told told' bytes bytes' calls calls' (Write at (length from) done) kept c now in
+        let v = (kept now.0).1 in
+        let before = image_push told told' bytes bytes' calls calls' (Write at v.0 done) (λ t. ((kept t).0, v.2)) c now in
         ⊎_elim
-        (λ is. (
-          bytes,
-          (before.0, inl refl),
-          ⊎_elim
-              (λ same. subst (Torn at (length from) bytes) (sym (is ∙ same)) (torn_same at (length from) bytes))
-              (λ put. subst (Torn at (length from) bytes) (sym (is ∙ put.1)) (torn_written at from bytes put.0)) (does now.0),
-        ))
-        (λ step. (step.0, (before.0, inr step.1), step.2)) before.1
+        (λ is. (bytes, (before.0, inl refl), subst (Torn at (length from) bytes) (sym (is ∙ does now.0)) (torn_read at from done bytes)))
+        (λ step. (step.0, (before.0, inr step.1), subst (λ (l : List ℕ). Torn at (length l) step.0 c) v.1 step.2)) before.1
 
-    pub cut_image : (IsTrue told' → IsTrue told × (calls' ≡ calls ++ Shorten at done ∷ [])) → ((bytes' ≡ bytes) ⊎ (bytes' ≡ take at bytes))
-        → (c : List ℕ) → Now told' bytes' calls' c → (d : List ℕ) × Now told bytes calls d × Cut at d c
+    pub write_replayed : (from : List ℕ) → (IsTrue told' → IsTrue told × ((v : Vec ℕ Global) × (v.items ≡ from) × (calls' ≡ calls ++ Write at v done ∷ []))) → (IsTrue told' → bytes' ≡ read_write at from done bytes)
+        → (IsTrue told → bytes ≡ read_calls calls first) → IsTrue told' → bytes' ≡ read_calls calls' first
+    write_replayed from kept does replayed now =
+        let was = kept now in
+        let v = was.1 in
+        read_push told told' bytes bytes' calls calls' (Write at v.0 done) v.2 (replayed was.0) (does now ∙ ap (λ (l : List ℕ). read_write at l done bytes) (sym v.1))
+
+    pub cut_image : (IsTrue told' → IsTrue told × (calls' ≡ calls ++ Shorten at done ∷ [])) → bytes' ≡ read_cut at done bytes → (c : List ℕ) → Now told' bytes' calls' c → (d : List ℕ) × Now told bytes calls d × Cut at d c
     cut_image kept does c now =
         let before = image_push told told' bytes bytes' calls calls' (Shorten at done) kept c now in
         ⊎_elim
-        (λ is. (
-          bytes,
-          (before.0, inl refl),
-          ⊎_elim
-              (λ same. (drop at bytes, is ∙ same ∙ sym (take-append-drop at bytes)))
-              (λ cut. ([], is ∙ cut ∙ sym (append-nil (take at bytes)))) does,
-        ))
+        (λ is. (bytes, (before.0, inl refl), subst (Cut at bytes) (sym (is ∙ does)) (cut_read at done bytes)))
         (λ step. (step.0, (before.0, inr step.1), step.2)) before.1
 
   module _ (told told' : Bool) (bytes : List ℕ) (calls calls' : List Call) where
@@ -107,12 +153,6 @@ module _ (first : List ℕ) where
         let v = was.1 in
         let before = image_push told told' bytes bytes calls calls' (Sync v.0) (λ t. let w = kept t in (w.0, was.1.2)) c now in
         (before.0, ⊎_elim (λ is. is) (λ step. step ∙ v.1) before.1)
-
-    pub sync_time : (IsTrue told' → IsTrue told × ((v : Vec ℕ Global) × (v.items ≡ bytes) × (calls' ≡ calls ++ Sync v ∷ []))) → (t : ℕ) (c : List ℕ) → t ≤ length calls → Since told' bytes calls' t c → Since told bytes calls t c ⊎ Now told' bytes calls' c
-    sync_time kept t c le (inl now) = inr now
-    sync_time kept t c le (inr past) =
-        let was = kept past.0 in
-        time_push told told' bytes bytes calls calls' (Sync was.1.0) (λ _. (was.0, was.1.2)) t c le (inr past)
 
 pub told_reading : (told : Bool) (bytes c : List ℕ) → IsTrue told → c ≡ bytes → cond told (Some bytes) None ≡ Some c
 told_reading told bytes c is same = ap (λ (b : Bool). cond b (Some bytes) None) is ∙ ap (λ (l : List ℕ). Some l) (sym same)
@@ -135,9 +175,6 @@ torn_short at n k f d within is = record {
 cut_short : (n : ℕ) (text d : List ℕ) → Cut n d (written d n text)
 cut_short n text d = (text ++ drop (n + length text) d, refl)
 
-cut_same : (n : ℕ) (d : List ℕ) → Cut n d d
-cut_same n d = (drop n d, sym (take-append-drop n d))
-
 torn_filled : (at n f : ℕ) (done : Bool) (d : List ℕ) → at ≤ length d → Torn at n d (written d at (replicate (cond done n (min n (length d - at))) f))
 torn_filled at n f true d within = subst (λ (m : ℕ). Torn at m d (written d at (replicate n f))) (length-replicate n f) (torn_written at (replicate n f) d within)
 torn_filled at n f false d within = torn_short at n (min n (length d - at)) f d within refl
@@ -148,12 +185,12 @@ cut_filled n f false d = cut_short n (replicate (length d - n) f) d
 
 -- what a crash may make of a call
 step_of : (f : ℕ) (call : Call) (P : List ℕ → Type 0) (d : List ℕ) → P d → Step call P (fill_step f call d)
-step_of f (Write at len done) P d p = (
+step_of f (Write at from done) P d p = (
   d,
   p,
   elim (cases_lt (length d) at) [
-    | inl lt ↦ rw (lt-ltb (length d) at lt) (torn_same at len d)
-    | inr le ↦ rw (le-ltb (length d) at le) (torn_filled at len f done d le)
+    | inl lt ↦ rw (lt-ltb (length d) at lt) (torn_same at (length from.items) d)
+    | inr le ↦ rw (le-ltb (length d) at le) (torn_filled at (length from.items) f done d le)
   ],
 )
 step_of f (Shorten len done) P d p = (

@@ -1,6 +1,6 @@
 -- How a run of device calls goes on.
-use Rattle.std.proofs.Common.{inl, inr, ⊎_elim, ℕ, ◌≤◌, arith}
-use Rattle.journal_disk.specs.Disk.{GoesOn, Stays, LeavesOnly}
+use Rattle.std.proofs.Common.{◌≡◌, inl, inr, ⊎_elim, ℕ, ◌≤◌, Option, arith}
+use Rattle.journal_disk.specs.Disk.{GoesOn, LeavesOnly}
 
 module _ {D X : Type 0} (moment : D → ℕ) (since : D → ℕ → X → Type 0) where
   -- before the first call
@@ -8,15 +8,15 @@ module _ {D X : Type 0} (moment : D → ℕ) (since : D → ℕ → X → Type 0
   started old P here = record { later = omega arith; each = here; before = λ t c le left. inl left }
 
   -- calls that add nothing
-  pub stayed : (images : D → X → Type 0) → ((disk : D) (c : X) → since disk (moment disk) c → images disk c) → (old new : D) → Stays moment since images old new → LeavesOnly moment since old new (images old)
-  stayed images only old new stays = record {
-    later = let same = stays.same_moment in omega arith;
-    each = λ c left. only old c (stays.nothing_since (moment old) c left);
-    before = λ t c le left. inl (stays.nothing_since t c left);
+  pub stayed : (images : D → X → Type 0) → ((disk : D) (c : X) → since disk (moment disk) c → images disk c) → (old new : D) → moment new ≡ moment old → ((t : ℕ) (c : X) → since new t c → since old t c) → LeavesOnly moment since old new (images old)
+  stayed images only old new same_moment nothing_since = record {
+    later = omega (arith, same_moment);
+    each = λ c left. only old c (nothing_since (moment old) c left);
+    before = λ t c le left. inl (nothing_since t c left);
   }
 
   -- one call more, after which each image has P
-  pub goes_on : (images : D → X → Type 0) (old mid new : D) (P : X → Type 0) → LeavesOnly moment since old mid P → GoesOn moment since images mid new
+  pub goes_on : {reading : D → Option X} → (images : D → X → Type 0) (old mid new : D) (P : X → Type 0) → LeavesOnly moment since old mid P → GoesOn reading moment since images mid new
       → ((c : X) → images new c → P c) → LeavesOnly moment since old new P
   goes_on images old mid new P so_far step here = record {
     later = omega (arith, so_far.later, step.later);

@@ -49,16 +49,19 @@ pub record Reads (at n : ℕ) (bytes into : List ℕ) : Type 0 where
   pub some : 0 < length into → at < length bytes → 0 < n
 
 -- Time goes on in a call: what a crash since an earlier moment may have left is what it could have left before the call, or what
--- it may leave after it.
-pub record GoesOn {D X : Type 0} (moment : D → ℕ) (since : D → ℕ → X → Type 0) (images : D → X → Type 0) (old new : D) : Type 0 where
+-- it may leave after it. While the reading is told, no image is forgotten.
+pub record GoesOn {D X : Type 0} (reading : D → Option X) (moment : D → ℕ) (since : D → ℕ → X → Type 0) (images : D → X → Type 0) (old new : D) : Type 0 where
   pub later : moment old ≤ moment new
   pub nothing_else : (t : ℕ) (c : X) → t ≤ moment old → since new t c → since old t c ⊎ images new c
+  pub none_forgotten : (t : ℕ) (b c : X) → reading new ≡ Some b → t ≤ moment old → since old t c → since new t c
 
--- no time goes by, and no image is added
+-- no time goes by, and no image is added or forgotten
 pub record Stays {D X : Type 0} (moment : D → ℕ) (since : D → ℕ → X → Type 0) (images : D → X → Type 0) (old new : D) : Type 0 where
   pub same_moment : moment new ≡ moment old
   pub no_image : (c : X) → images new c → images old c
+  pub same_images : (c : X) → images old c → images new c
   pub nothing_since : (t : ℕ) (c : X) → since new t c → since old t c
+  pub none_forgotten : (t : ℕ) (c : X) → since old t c → since new t c
 
 -- each image that a crash at some moment since old may have left has P
 pub record LeavesOnly {D X : Type 0} (moment : D → ℕ) (since : D → ℕ → X → Type 0) (old new : D) (P : X → Type 0) : Type 0 where

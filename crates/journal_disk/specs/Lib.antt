@@ -7,6 +7,7 @@ pub mod Keeper
 pub mod Journal
 pub mod JournalLaws
 pub mod Opened
+pub mod MemoryCalls
 pub mod Memory
 pub mod MemoryLaws
 pub mod Reading

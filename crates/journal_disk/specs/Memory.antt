@@ -1,20 +1,10 @@
--- A disk in memory: what it keeps of its calls, and what they may leave.
-use Rattle.std.specs.Prelude.{◌≡◌, ◌⊎◌, ℕ, ◌-◌, ◌<◌, ◌≤◌, IsTrue, if◌then◌else◌, nat_lt, min, List, [], ◌∷◌, length, take, replicate, Option, Some, None}
-use Rattle.journal_disk.specs.Disk.{Torn, Cut, written}
+-- A disk in memory: what it tells, and what its calls may leave.
+use Rattle.std.specs.Prelude.{◌≡◌, ◌⊎◌, ℕ, ◌-◌, ◌<◌, ◌≤◌, Bool, IsTrue, if◌then◌else◌, nat_lt, min, List, [], ◌∷◌, length, take, replicate, Option, Some, None}
+use Rattle.journal_disk.specs.Disk.{written}
+use Rattle.journal_disk.specs.MemoryCalls.{After}
 use Rattle.journal_disk.specs.declared.memory.Call.{Call}
 use Rattle.journal_disk.specs.declared.memory.Call.TheVariants.{Write, Shorten, Sync}
 use Rattle.journal_disk.specs.declared.memory.MemoryDisk.{MemoryDisk}
-
--- the images after one call
-abbrev pub Step : Call → (List ℕ → Type 0) → List ℕ → Type 0
-Step (Write at len done) old c = (d : List ℕ) × old d × Torn at len d c
-Step (Shorten len done) old c = (d : List ℕ) × old d × Cut len d c
-Step (Sync bytes) old c = c ≡ bytes.items
-
--- the images after these calls
-abbrev pub After : (List ℕ → Type 0) → List Call → List ℕ → Type 0
-After old [] c = old c
-After old (call ∷ calls) c = After (Step call old) calls c
 
 abbrev pub memory_reading : MemoryDisk → Option (List ℕ)
 memory_reading disk = if disk.told then Some disk.bytes.items else None
@@ -35,9 +25,13 @@ memory_faults disk = disk.failing.failed
 abbrev pub IsMemorySteady : MemoryDisk → Type 0
 IsMemorySteady disk = disk.failing.left ≡ []
 
+-- a crash's outcome of a write of n bytes where each of them becomes f; one that failed makes the bytes no longer
+abbrev pub fill_write : ℕ → ℕ → ℕ → Bool → List ℕ → List ℕ
+fill_write f at n done bytes = if nat_lt (length bytes) at then bytes else written bytes at (replicate (if done then n else min n (length bytes - at)) f)
+
 -- a crash's outcome of a call where each byte that isn't synced becomes f; a call that failed changed nothing of the reading
 abbrev pub fill_step : ℕ → Call → List ℕ → List ℕ
-fill_step f (Write at len done) bytes = if nat_lt (length bytes) at then bytes else written bytes at (replicate (if done then len else min len (length bytes - at)) f)
+fill_step f (Write at from done) bytes = fill_write f at (length from.items) done bytes
 fill_step f (Shorten len done) bytes = if nat_lt (length bytes) len then bytes else (if done then take len bytes else written bytes len (replicate (length bytes - len) f))
 fill_step f (Sync synced) bytes = synced.items
 

@@ -9,6 +9,8 @@ use sysapi_base::Failed;
 /// Between two syncs each written range, and all past the least end since the last sync, may hold any bytes after a crash, and the
 /// disk may end anywhere from that end on. Other bytes stay. After a sync that is done a crash leaves what a read gives. A write
 /// that failed counts as written. A disk may tell nothing of its content, as a real file; then nothing is said of its images.
+///
+/// No image is forgotten: while the reading is told, what a crash at some moment since an earlier one may have left only grows.
 pub trait Disk {
     /// What a read gives, where it is told.
     ghost reading: { Self → Option (List ℕ) };
@@ -19,7 +21,7 @@ pub trait Disk {
     /// The moment, as a number that never falls.
     ghost moment: { Self → ℕ };
 
-    /// What a crash at some moment from that one on may have left.
+    /// What a crash at some moment from that one on may have left. While the reading is told, no call takes an image away.
     ghost images_since: { Self → ℕ → List ℕ → Type 0 };
 
     /// How often a call has failed.
@@ -48,7 +50,7 @@ pub trait Disk {
         ensures tells { Tells (reading self.old) (reading self.new) }
         ensures written { OnOk result (Writes at from.now (reading self.old) (reading self.new)) }
         ensures crash { Follows (Torn at (length from.now)) (images self.old) (images self.new) }
-        ensures goes_on { GoesOn moment images_since images self.old self.new }
+        ensures goes_on { GoesOn reading moment images_since images self.old self.new }
         ensures passes { Passes faults IsSteady self.old self.new result };
 
     /// Cuts the disk to a length. Until the next sync a crash may leave anything from there on.
@@ -56,7 +58,7 @@ pub trait Disk {
         ensures tells { Tells (reading self.old) (reading self.new) }
         ensures cut { OnOk result (Cuts len (reading self.old) (reading self.new)) }
         ensures crash { Follows (Cut len) (images self.old) (images self.new) }
-        ensures goes_on { GoesOn moment images_since images self.old self.new }
+        ensures goes_on { GoesOn reading moment images_since images self.old self.new }
         ensures passes { Passes faults IsSteady self.old self.new result };
 
     /// At `Ok` a crash leaves what a read gives. The reading stays either way.
@@ -64,7 +66,7 @@ pub trait Disk {
         ensures durable { OnOk result (Durable (reading self.new) (images self.new)) }
         ensures keeps { Keeps (reading self.old) (reading self.new) }
         ensures crash { (c : List ℕ) → images self.new c → images self.old c }
-        ensures goes_on { GoesOn moment images_since images self.old self.new }
+        ensures goes_on { GoesOn reading moment images_since images self.old self.new }
         ensures passes { Passes faults IsSteady self.old self.new result };
 
     /// The disk as it reads is one of its images.

@@ -1,6 +1,7 @@
 ghost use Rattle.std.specs.Prelude.{◌≡◌, ◌+◌, ◌-◌, ◌<◌, ◌≤◌, ◌++◌, [], ◌∷◌, length, take, IfOk, OnOk, IsTrue, IsFalse, Some};
 ghost use Rattle.std.proofs.Common.{inl};
 ghost use Rattle.journal_disk.specs.Disk.{written};
+ghost use Rattle.journal_disk.specs.MemoryCalls.{read_write, read_cut, read_calls};
 
 mod replay;
 
@@ -12,15 +13,15 @@ use sysapi_base::{Failed, FailingCalls, Memory};
 // A call that may change what a crash leaves. A sync is kept where it was done, with what a read gave then.
 #[derive(Debug, Drop)]
 pub(crate) enum Call {
-    Write { at: u64, len: usize, done: bool },
+    Write { at: u64, from: Vec<u8>, done: bool },
     Shorten { len: u64, done: bool },
     Sync { bytes: Vec<u8> },
 }
 
 /// A disk in memory, which tells its bytes and its images, and whose calls fail where they are told to.
 ///
-/// It keeps all its calls that may change what a crash leaves, and its images follow from them. Where no memory is found for that, it
-/// tells nothing from then on.
+/// It keeps all its calls that may change what a crash leaves, and its images follow from them; what a read gives is one of them, and
+/// none is forgotten. Where no memory is found for that, it tells nothing from then on.
 #[derive(Debug, Drop)]
 pub struct MemoryDisk {
     alloc: Global,
@@ -29,6 +30,7 @@ pub struct MemoryDisk {
     calls: Vec<Call>,
     told: bool,
     failing: FailingCalls,
+    ghost replayed: { IsTrue told → bytes.items ≡ read_calls calls.items first.items },
 }
 
 fn overwritten(alloc: Global, bytes: &[u8], at: usize, from: &[u8]) -> Result<Vec<u8>, AllocError>
@@ -69,11 +71,61 @@ fn put(alloc: Global, bytes: &mut Vec<u8>, told: &mut bool, at: u64, from: &[u8]
 }
 
 fn shorten(bytes: &mut Vec<u8>, len: u64)
-    ensures within { len ≤ length bytes.old.items → bytes.new.items ≡ take len bytes.old.items }
-    ensures past { length bytes.old.items < len → bytes.new.items ≡ bytes.old.items }
+    ensures { bytes.new.items ≡ take len bytes.old.items }
 {
     if len < bytes.len() as u64 {
         bytes.truncate(len as usize);
+    }
+}
+
+// Keeps a write, with its bytes.
+fn keep_write(
+    alloc: Global,
+    calls: &mut Vec<Call>,
+    told: &mut bool,
+    at: u64,
+    from: &[u8],
+    done: bool,
+)
+    ensures kept { IsTrue told.new → IsTrue told.old × ((v : _) × (v.items ≡ from.now) × (calls.new.items ≡ calls.old.items ++ Call.Write at v done ∷ [])) }
+    ensures no_shorter { length calls.old.items ≤ length calls.new.items }
+{
+    match from.to_vec(alloc) {
+        Ok(from) => keep(calls, told, Call::Write { at, from, done }),
+        Err(_) => *told = false,
+    }
+}
+
+// Keeps a write, and does it where it doesn't fail.
+fn write_over(
+    alloc: Global,
+    bytes: &mut Vec<u8>,
+    calls: &mut Vec<Call>,
+    told: &mut bool,
+    at: u64,
+    from: &[u8],
+    done: bool,
+)
+    ensures kept { IsTrue told.new → IsTrue told.old × ((v : _) × (v.items ≡ from.now) × (calls.new.items ≡ calls.old.items ++ Call.Write at v done ∷ [])) }
+    ensures no_shorter { length calls.old.items ≤ length calls.new.items }
+    ensures reads { IsTrue told.new → bytes.new.items ≡ read_write at from.now done bytes.old.items }
+    ensures written { IsTrue done → IsTrue told.new → at ≤ length bytes.old.items → bytes.new.items ≡ written bytes.old.items at from.now }
+{
+    keep_write(alloc, calls, told, at, from, done);
+    if done {
+        put(alloc, bytes, told, at, from);
+    }
+}
+
+// Keeps a cut, and does it where it doesn't fail.
+fn cut_off(bytes: &mut Vec<u8>, calls: &mut Vec<Call>, told: &mut bool, len: u64, done: bool)
+    ensures kept { IsTrue told.new → IsTrue told.old × (calls.new.items ≡ calls.old.items ++ Call.Shorten len done ∷ []) }
+    ensures no_shorter { length calls.old.items ≤ length calls.new.items }
+    ensures reads { bytes.new.items ≡ read_cut len done bytes.old.items }
+{
+    keep(calls, told, Call::Shorten { len, done });
+    if done {
+        shorten(bytes, len);
     }
 }
 
@@ -210,27 +262,22 @@ impl Disk for MemoryDisk {
 
     fn write_at(&mut self, at: u64, from: &[u8]) -> Result<(), Failed> {
         let done = !self.failing.meets();
-        let len = from.len();
-        keep(
+        write_over(
+            self.alloc,
+            &mut self.bytes,
             &mut self.calls,
             &mut self.told,
-            Call::Write { at, len, done },
+            at,
+            from,
+            done,
         );
-        if !done {
-            return Err(Failed);
-        }
-        put(self.alloc, &mut self.bytes, &mut self.told, at, from);
-        Ok(())
+        if done { Ok(()) } else { Err(Failed) }
     }
 
     fn cut(&mut self, len: u64) -> Result<(), Failed> {
         let done = !self.failing.meets();
-        keep(&mut self.calls, &mut self.told, Call::Shorten { len, done });
-        if !done {
-            return Err(Failed);
-        }
-        shorten(&mut self.bytes, len);
-        Ok(())
+        cut_off(&mut self.bytes, &mut self.calls, &mut self.told, len, done);
+        if done { Ok(()) } else { Err(Failed) }
     }
 
     fn sync(&mut self) -> Result<(), Failed> {

@@ -1,7 +1,7 @@
 //! What a crash may have left of a disk in memory.
 
 ghost use Rattle.std.specs.Prelude.{◌≡◌, IfOk};
-ghost use Rattle.journal_disk.specs.Memory.{fill_step, fill_calls};
+ghost use Rattle.journal_disk.specs.Memory.{fill_write, fill_step, fill_calls};
 
 use super::{Call, overwritten};
 use std::alloc::{AllocError, Global};
@@ -21,7 +21,7 @@ fn after_write(
     done: bool,
     fill: u8,
 ) -> Result<Vec<u8>, AllocError>
-    ensures { IfOk result (λ v. v.items ≡ fill_step fill (Call.Write at len done) image.now) }
+    ensures { IfOk result (λ v. v.items ≡ fill_write fill at len done image.now) }
 {
     if at > image.len() as u64 {
         return copied(alloc, image);
@@ -61,7 +61,7 @@ fn after(alloc: Global, image: &[u8], call: &Call, fill: u8) -> Result<Vec<u8>, 
     ensures { IfOk result (λ v. v.items ≡ fill_step fill call.now image.now) }
 {
     match call {
-        Call::Write { at, len, done } => after_write(alloc, image, *at, *len, *done, fill),
+        Call::Write { at, from, done } => after_write(alloc, image, *at, from.len(), *done, fill),
         Call::Shorten { len, done } => after_cut(alloc, image, *len, *done, fill),
         Call::Sync { bytes } => copied(alloc, bytes),
     }
