@@ -102,8 +102,8 @@ module _ (first : List ℕ) where
     pub time_kept : IsTrue told' → (IsTrue told → bytes ≡ read_calls calls first) → (t : ℕ) (c : List ℕ) → t ≤ length calls → Since told bytes calls t c → Since told' bytes' calls' t c
     time_kept now replayed t c le (inl left) =
         let after : After (λ c. c ≡ first) calls c = ⊎_elim
-            (λ is. subst (After (λ c. c ≡ first) calls) (sym (is ∙ replayed left.0)) (reading_left calls (λ c. c ≡ first) first refl))
-            (λ after. after) left.1 in
+        (λ is. subst (After (λ c. c ≡ first) calls) (sym (is ∙ replayed left.0)) (reading_left calls (λ c. c ≡ first) first refl))
+        (λ after. after) left.1 in
         let same : take (length calls) calls' ≡ calls = take_kept (length calls) (omega arith) now ∙ take_all (length calls) calls (omega arith) in
         inr (now, (length calls, le, omega (arith, one_more now), subst (λ (l : List Call). After (λ c. c ≡ first) l c) (sym same) after))
     time_kept now replayed t c le (inr past) =

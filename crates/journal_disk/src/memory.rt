@@ -10,7 +10,8 @@ use crate::disk::Disk;
 use std::alloc::{AllocError, Global};
 use sysapi_base::{Failed, FailingCalls, Memory};
 
-// A call that may change what a crash leaves. A sync is kept where it was done, with what a read gave then.
+// A call that may change what a crash leaves. A write is kept with its bytes, and a sync where it was done, with what a read gave
+// then.
 #[derive(Debug, Drop)]
 pub(crate) enum Call {
     Write { at: u64, from: Vec<u8>, done: bool },
