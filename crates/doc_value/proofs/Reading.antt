@@ -108,14 +108,22 @@ module _ {X : Type 0} where
   all_below [] e more h = tt
   all_below (x ∷ xs) e more h = (below_next x xs e more h.0, all_below xs e more h.1)
 
+  pub named_last_as : (es : List (String Global × Doc)) (k : String Global) (d : Doc) (done : List (String Global × X)) (e : String Global × X) (more : List (String Global × X))
+      → IsStrictlySortedBy string_cmp (keys_of (done ++ e ∷ more)) → map bytes es ≡ map named_bytes done → string_bytes k ≡ string_bytes e.0
+      → all_named (insert_entry string_cmp es k d) ≡ all_named es ++ (string_bytes e.0, document d) ∷ []
+  named_last_as es k d done e more sorted same key = insert_last es k d (rw (same, key) (all_below done e more sorted)) ∙ rw key
+
   pub named_last : (es : List (String Global × Doc)) (d : Doc) (done : List (String Global × X)) (e : String Global × X) (more : List (String Global × X))
       → IsStrictlySortedBy string_cmp (keys_of (done ++ e ∷ more)) → map bytes es ≡ map named_bytes done
       → all_named (insert_entry string_cmp es e.0 d) ≡ all_named es ++ (string_bytes e.0, document d) ∷ []
-  named_last es d done e more sorted same = insert_last es e.0 d (rw same (all_below done e more sorted))
+  named_last es d done e more sorted same = named_last_as es e.0 d done e more sorted same refl
 
 bytes_named : (es : List (String Global × Doc)) → map bytes es ≡ map (λ (e : List ℕ × Document). e.0) (all_named es)
 bytes_named [] = refl
 bytes_named (e ∷ es) = ap (λ l. bytes e ∷ l) (bytes_named es)
+
+pub names_alike : (es fs : List (String Global × Doc)) → all_named es ≡ all_named fs → map bytes es ≡ map bytes fs
+names_alike es fs same = bytes_named es ∙ ap (map (λ x. x.0)) same ∙ sym (bytes_named fs)
 
 -- the names stay those of the entries that were read
 pub same_names : (es fs : List (String Global × Doc)) (d : Document) (done : List Entry) (e : Entry) → all_named fs ≡ all_named es ++ (string_bytes e.0, d) ∷ []

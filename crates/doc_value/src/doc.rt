@@ -1,6 +1,9 @@
 ghost use Rattle.std.specs.Prelude.{◌≡◌};
 
+mod copy;
 mod field;
+mod length;
+mod reference;
 mod write;
 
 use std::alloc::Global;

@@ -2,7 +2,7 @@ use crate::{Doc, DocError, Fields, Items};
 use std::alloc::Global;
 use std::collections::BTreeMap;
 use std::test::Fail;
-use sysapi_base::Text;
+use sysapi_base::{Id, Text};
 
 /// The compact text of what the bytes are read as.
 fn rewritten(alloc: Global, bytes: &[u8]) -> Result<Vec<u8>, Fail> {
@@ -32,6 +32,40 @@ fn twice(alloc: Global, first: &[u8], second: &[u8]) -> Result<Vec<u8>, Fail> {
 fn writes_names_in_order(rt: HostRuntime) -> Result<(), Fail> {
     let text = rewritten(rt.alloc(), b"{\"b\":1,\"a\":[true,null]}")?;
     assert_eq!(rt; text.as_slice(), b"{\"a\":[true,null],\"b\":1}".as_slice());
+    Ok(())
+}
+
+#[test]
+fn copies_and_measures(rt: HostRuntime) -> Result<(), Fail> {
+    let alloc = rt.alloc();
+    let copy = Doc::read(alloc, b"{\"b\":1,\"a\":[true,null]}")?.copy(alloc)?;
+    assert_eq!(rt; copy.written_len(), 23);
+    assert_eq!(rt;
+        copy.write(alloc)?.as_slice(),
+        b"{\"a\":[true,null],\"b\":1}".as_slice()
+    );
+    Ok(())
+}
+
+#[test]
+fn finds_references(rt: HostRuntime) -> Result<(), Fail> {
+    let alloc = rt.alloc();
+    let one = Doc::read(
+        alloc,
+        b"{\"@id\":\"00000000-0000-0000-0000-00000000000A\",\"name\":1}",
+    )?;
+    assert_eq!(rt; one.as_reference(), Some(Id::from_u128(10)));
+    assert_eq!(rt; one.reference_at(0), Some(Id::from_u128(10)));
+    assert_eq!(rt; one.reference_at(1), None);
+    let many = Doc::read(
+        alloc,
+        b"[null,{\"@id\":\"x\"},{\"@id\":\"00000000-0000-0000-0000-000000000002\"},[],{\"@id\":3},{\"@id\":\"00000000-0000-0000-0000-000000000001\"}]",
+    )?;
+    assert_eq!(rt; many.as_reference(), None);
+    assert_eq!(rt; many.reference_at(0), Some(Id::from_u128(2)));
+    assert_eq!(rt; many.reference_at(1), Some(Id::from_u128(1)));
+    assert_eq!(rt; many.reference_at(2), None);
+    assert_eq!(rt; Doc::Null.reference_at(0), None);
     Ok(())
 }
 
