@@ -8,7 +8,7 @@ use std::collections::BTreeMap;
 use sysapi_base::{Memory, Text};
 
 impl Doc {
-    /// An equal document, which shares no memory with this one.
+    /// An equal document, in memory of its own.
     pub fn copy(&self, alloc: Global) -> Result<Doc, Memory>
         ensures value { IfOk result (λ d. d ≡ self.now) }
         ensures sound { IsSound (document self.now) → IfOk result (λ d. IsSound (document d)) }
