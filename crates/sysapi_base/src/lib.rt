@@ -29,7 +29,7 @@ pub use source::Source;
 pub use stream_sink::StreamSink;
 pub use stream_source::StreamSource;
 pub use system_clock::SystemClock;
-pub use text::{Bytes, Text};
+pub use text::{Bytes, Ids, Text};
 
 #[cfg(test)]
 mod tests;

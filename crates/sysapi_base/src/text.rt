@@ -1,3 +1,6 @@
+use crate::error::Memory;
+use crate::id::Id;
+use std::alloc::Global;
 use std::marker::Model;
 
 /// A text, seen as the list of its UTF-8 bytes.
@@ -15,7 +18,7 @@ impl Model for Text {
 }
 
 impl Text {
-    ghost use Rattle.std.specs.Prelude.{◌≡◌, string_bytes};
+    ghost use Rattle.std.specs.Prelude.{◌≡◌, string_bytes, IfOk};
 
     /// The text of a string.
     pub fn of(text: String) -> Text
@@ -29,6 +32,13 @@ impl Text {
         ensures { result.now ≡ self.now }
     {
         self.text.as_str()
+    }
+
+    /// An equal text.
+    pub fn copy(&self, alloc: Global) -> Result<Text, Memory>
+        ensures { IfOk result (λ copy. copy ≡ self.now) }
+    {
+        Ok(Text::of(String::from_str(alloc, self.text.as_str())?))
     }
 }
 
@@ -61,5 +71,37 @@ impl Bytes {
         ensures { result.now ≡ self.now }
     {
         self.bytes.as_slice()
+    }
+}
+
+/// Ids, seen as their list.
+#[derive(Debug, Drop)]
+pub struct Ids {
+    ids: Vec<Id>,
+}
+
+impl Model for Ids {
+    ghost use Rattle.std.specs.Prelude.{ℕ, List};
+
+    ghost Value = { List ℕ };
+
+    ghost view = { λ a. a.ids.items };
+}
+
+impl Ids {
+    ghost use Rattle.std.specs.Prelude.{◌≡◌};
+
+    /// The ids of a vector.
+    pub fn of(ids: Vec<Id>) -> Ids
+        ensures { result ≡ ids.items }
+    {
+        Ids { ids }
+    }
+
+    /// The ids, lent.
+    pub fn as_slice(&self) -> &[Id]
+        ensures { result.now ≡ self.now }
+    {
+        self.ids.as_slice()
     }
 }
