@@ -1,0 +1,6 @@
+pub mod Order
+pub mod AtFork
+pub mod Inserted
+pub mod Heights
+pub mod Removed
+pub mod Ranges
