@@ -1,0 +1,17 @@
+use Rattle.std.proofs.Common.{◌∙◌, ap, sym, None, unwrap_or, option_map, []}
+use Rattle.timeline.specs.Values.{value_at, last_said}
+use Rattle.timeline.proofs.timeline.Timeline.at.Goals as goal
+
+pub returns-in_err-find : goal.returns-in_err-find
+unfolding value_at
+returns-in_err-find g c =
+    ap (option_map (λ v. v.now)) c.from_residual.ensures
+    ∙ ap (λ o. last_said (unwrap_or o []) c.args.n None) (ap (option_map (λ h. h.now)) (sym c.in_err-find.was) ∙ c.find.ensures)
+    ∙ ap (λ t. value_at t c.args.id c.args.n) c.self.view_is
+
+pub returns : goal.returns
+unfolding value_at
+returns g c =
+    c.at.ensures
+    ∙ ap (λ o. last_said (unwrap_or o []) c.args.n None) (ap (option_map (λ h. h.now)) (sym c.in_ok-find.was) ∙ c.find.ensures)
+    ∙ ap (λ t. value_at t c.args.id c.args.n) c.self.view_is

@@ -1,0 +1,4 @@
+pub mod Values
+pub mod Later
+pub mod Seen
+pub mod Shared
