@@ -17,11 +17,12 @@ use Rattle.httparse.specs.Grammar.{RequestHead, ReadsRequest, HasNoRequest, IsTo
 use Rattle.http_wire.specs.declared.head.TheConstants.{HEAD_MOST, FIELDS_MOST}
 use Rattle.http_wire.specs.declared.error.WireError.{WireError}
 use Rattle.http_wire.specs.declared.error.WireError.TheVariants.{UnknownCoding}
+use Rattle.http_wire.specs.declared.front.Parts.{Parts}
 use Rattle.http_wire.specs.declared.request.Request.{Request}
 use Rattle.http_wire.specs.Heads.{IsOpen, IsBroken, IsFoundAt, HasCrowd, IsJudgedAs}
 use Rattle.http_wire.specs.declared.head.Head.{Head}
 use Rattle.http_wire.specs.Fields.{is_built, length_in, body_len}
-use Rattle.http_wire.specs.Fronts.{Front, whole, refused, not_yet, window, HeadFront, stands, broken, open_yet, IsHeadFront, request_of, front_with, front_of, IsFront, Tells}
+use Rattle.http_wire.specs.Fronts.{Front, whole, refused, not_yet, window, HeadFront, stands, broken, open_yet, IsHeadFront, request_of, front_with, front_of, IsFront, Tells, with_body}
 
 token_is_ascii : (b : ℕ) → IsTrue (is_token_byte b) → b < 128
 unfolding is_token_byte
@@ -64,12 +65,8 @@ crowd_refused bytes crowd =
     let many : nat_le (length fields) FIELDS_MOST ≡ false = lt-leb (length fields) FIELDS_MOST (omega (arith, crowd.3, length-map crowd.0.fields name_and_value)) in
     (stands crowd.0, (crowd.1, crowd.2), ap (front_with crowd.0 bytes) (cond-false (is_built crowd.0.minor fields) (length_in fields) None (and_left (nat_le (length fields) FIELDS_MOST) _ many)))
 
-pub tells_none : (o : Option (Request × ℕ)) (bytes now : List ℕ) → o ≡ None → bytes ≡ now → Tells (Ok o) (IsFront bytes) → IsFront now not_yet
-tells_none o bytes now is same tells = subst (λ t. IsFront t not_yet) same (subst (λ (x : Option (Request × ℕ)). Tells (Ok x) (IsFront bytes)) is tells)
-
-pub tells_some : (o : Option (Request × ℕ)) (request : Request) (len : ℕ) (bytes now : List ℕ) → o ≡ Some (request, len) → bytes ≡ now → Tells (Ok o) (IsFront bytes) → IsFront now (whole request len)
-tells_some o request len bytes now is same tells =
-    subst (λ t. IsFront t (whole request len)) same (subst (λ (x : Option (Request × ℕ)). Tells (Ok x) (IsFront bytes)) is tells)
+pub tells_none : (o : Option Parts) (bytes now : List ℕ) → o ≡ None → bytes ≡ now → Tells (with_body bytes (Ok o)) (IsFront bytes) → IsFront now not_yet
+tells_none o bytes now is same tells = subst (λ t. IsFront t not_yet) same (subst (λ (x : Option Parts). Tells (with_body bytes (Ok x)) (IsFront bytes)) is tells)
 
 abbrev pub found_at : RequestHead → List ℕ → ℕ → Front
 found_at h bytes n = whole (request_of h (slice_range bytes (length (print_request h)) (length (print_request h) + n))) (length (print_request h) + n)

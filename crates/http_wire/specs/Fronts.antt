@@ -5,6 +5,7 @@ use Rattle.httparse.specs.Spans.{name_and_value}
 use Rattle.http_wire.specs.declared.head.TheConstants.{HEAD_MOST}
 use Rattle.http_wire.specs.declared.error.WireError.{WireError}
 use Rattle.http_wire.specs.declared.error.WireError.TheVariants.{BadHead, UnknownCoding, Memory}
+use Rattle.http_wire.specs.declared.front.Parts.{Parts}
 use Rattle.http_wire.specs.declared.request.Request.{Request}
 use Rattle.http_wire.specs.Heads.{IsOpen, IsBroken}
 use Rattle.http_wire.specs.Fields.{body_len}
@@ -61,3 +62,14 @@ abbrev pub Tells : Result (Option (Request × ℕ)) WireError → (Front → Typ
 Tells (Ok None) P = P not_yet
 Tells (Ok (Some found)) P = P (whole found.0 found.1)
 Tells (Err e) P = e ≢ Memory → P (refused e)
+
+-- the request of these parts, whose body stands in the bytes
+abbrev pub request_at : Parts → List ℕ → Request
+request_at parts bytes =
+    record { method = parts.method; target = parts.target; old = false; host = None; close = false; body = slice_range bytes parts.head_len parts.len }
+
+-- what the code answers, with the body that stands in the bytes
+abbrev pub with_body : List ℕ → Result (Option Parts) WireError → Result (Option (Request × ℕ)) WireError
+with_body bytes (Ok None) = Ok None
+with_body bytes (Ok (Some parts)) = Ok (Some (request_at parts bytes, parts.len))
+with_body bytes (Err e) = Err e

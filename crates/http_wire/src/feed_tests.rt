@@ -5,6 +5,10 @@ use std::test::*;
 
 const GET: &[u8] = b"GET /projects HTTP/1.1\r\nHost: h\r\n\r\n";
 
+const POST: &[u8] = b"POST /a HTTP/1.1\r\nHost: h\r\nContent-Length: 12\r\n\r\n";
+
+const BODY: &[u8] = b"{\"name\":\"P\"}";
+
 /// What a feed answered.
 #[derive(Clone, Copy, Debug, PartialEq)]
 enum Kind {
@@ -103,6 +107,56 @@ fn a_body_and_what_follows(rt: HostRuntime) -> Result<(), Fail> {
     assert_eq!(rt; ask(rt, &mut feed), Kind::BadHead);
     push(&mut feed, GET)?;
     assert_eq!(rt; ask(rt, &mut feed), Kind::BadHead);
+    Ok(())
+}
+
+fn is_get(request: &Request) -> bool {
+    request.target.as_str() == "/projects" && request.body.as_slice().is_empty()
+}
+
+fn is_post(request: &Request) -> bool {
+    request.target.as_str() == "/a" && request.body.as_slice() == BODY
+}
+
+#[test]
+fn a_body_between_two_requests(rt: HostRuntime) -> Result<(), Fail> {
+    // So much of the last request is there with the body: less than the body, as much, and more.
+    for cut in [0, 1, 11, 12, 13, 34, 35] {
+        let mut feed = Feed::new(rt.alloc());
+        for piece in [GET, POST, BODY, &GET[..cut]] {
+            push(&mut feed, piece)?;
+        }
+        assert!(rt; is_get(&take(rt, &mut feed)?));
+        assert!(rt; is_post(&take(rt, &mut feed)?));
+        assert_eq!(rt; feed.is_empty(), cut == 0);
+        push(&mut feed, &GET[cut..])?;
+        assert!(rt; is_get(&take(rt, &mut feed)?));
+        assert!(rt; feed.is_empty());
+    }
+    Ok(())
+}
+
+/// Pushes byte by byte. Nothing may be given before the last one.
+fn push_each(rt: HostRuntime, feed: &mut Feed, bytes: &[u8]) -> Result<(), Fail> {
+    for b in bytes {
+        let waits = ask(rt, feed) == Kind::Waits;
+        waits.then_some(()).ok_or("an answer too early")?;
+        push(feed, &[*b])?;
+    }
+    Ok(())
+}
+
+#[test]
+fn bodies_cut_after_each_byte(rt: HostRuntime) -> Result<(), Fail> {
+    let mut feed = Feed::new(rt.alloc());
+    for _ in 0..2 {
+        push_each(rt, &mut feed, POST)?;
+        push_each(rt, &mut feed, BODY)?;
+        assert!(rt; is_post(&take(rt, &mut feed)?));
+        push_each(rt, &mut feed, GET)?;
+        assert!(rt; is_get(&take(rt, &mut feed)?));
+    }
+    assert!(rt; feed.is_empty());
     Ok(())
 }
 

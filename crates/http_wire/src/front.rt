@@ -4,15 +4,25 @@ ghost use Rattle.std.specs.Prelude.{◌≡◌, ◌≤◌, length, IfOk, IfSome, 
 ghost use Rattle.httparse.specs.Grammar.{RequestHead};
 ghost use Rattle.httparse.specs.Spans.{span_bytes, IsWithin, IsRequestAt};
 ghost use Rattle.http_wire.specs.Heads.{IsFoundAt};
-ghost use Rattle.http_wire.specs.Fronts.{window, stands, front_of, IsFront, Tells};
+ghost use Rattle.http_wire.specs.Fronts.{window, stands, front_of, IsFront, Tells, with_body};
 
 use crate::error::WireError;
 use crate::fields::body_len;
 use crate::head::{FIELDS_MOST, HEAD_MOST, Head, judge_head};
-use crate::request::Request;
 use httparse::spans::{EMPTY_HEADER_SPAN, HeaderSpan, RequestSpans, Span};
 use std::alloc::{AllocError, Global};
-use sysapi_base::{Bytes, Text};
+use sysapi_base::Text;
+
+/// The parts of a request at the front. The body stays where it stands, since it can be long.
+#[derive(Drop)]
+pub(crate) struct Parts {
+    pub(crate) method: Text,
+    pub(crate) target: Text,
+    /// So many bytes stand before the body.
+    pub(crate) head_len: usize,
+    /// So many bytes are the head and the body.
+    pub(crate) len: usize,
+}
 
 fn text_at(alloc: Global, bytes: &[u8], span: Span) -> Result<Text, AllocError>
     requires within { IsWithin (length bytes.now) span }
@@ -39,12 +49,13 @@ fn judge_body(
     bytes: &[u8],
     head: &RequestSpans,
     spans: &[HeaderSpan],
-) -> Result<Option<(Request, usize)>, WireError>
+) -> Result<Option<Parts>, WireError>
     requires found { IsFoundAt (window bytes.now) spans.now head.now }
     requires room { length spans.now ≡ FIELDS_MOST }
-    ensures within { IfOk result (λ found. IfSome found (λ f. f.1 ≤ length bytes.now)) }
+    ensures order { IfOk result (λ found. IfSome found (λ parts. parts.head_len ≤ parts.len)) }
+    ensures within { IfOk result (λ found. IfSome found (λ parts. parts.len ≤ length bytes.now)) }
     ensures front { (h : RequestHead) → IsRequestAt (window bytes.now) spans.now head.now h
-        → Tells result (λ front. front_of (stands h) bytes.now ≡ front) }
+        → Tells (with_body bytes.now result) (λ front. front_of (stands h) bytes.now ≡ front) }
 {
     let window = window(bytes);
     let Some(body_len) = body_len(window, head.version, &spans[..head.headers]) else {
@@ -54,25 +65,23 @@ fn judge_body(
     if bytes.len() < len {
         return Ok(None);
     }
-    let request = Request {
+    Ok(Some(Parts {
         method: text_at(alloc, window, head.method)?,
         target: text_at(alloc, window, head.path)?,
-        old: false,
-        host: None,
-        close: false,
-        body: Bytes::of(Vec::from_slice(alloc, &bytes[head.len..len])?),
-    };
-    Ok(Some((request, len)))
+        head_len: head.len,
+        len,
+    }))
 }
 
 fn judge_with(
     alloc: Global,
     bytes: &[u8],
     spans: &mut [HeaderSpan],
-) -> Result<Option<(Request, usize)>, WireError>
+) -> Result<Option<Parts>, WireError>
     requires { length spans.old ≡ FIELDS_MOST }
-    ensures within { IfOk result (λ found. IfSome found (λ f. f.1 ≤ length bytes.now)) }
-    ensures front { Tells result (IsFront bytes.now) }
+    ensures order { IfOk result (λ found. IfSome found (λ parts. parts.head_len ≤ parts.len)) }
+    ensures within { IfOk result (λ found. IfSome found (λ parts. parts.len ≤ length bytes.now)) }
+    ensures front { Tells (with_body bytes.now result) (IsFront bytes.now) }
 {
     let head = judge_head(alloc, window(bytes), spans)?;
     match head {
@@ -84,10 +93,11 @@ fn judge_with(
     }
 }
 
-/// The request at the front and how many bytes it takes, or None where it hasn't come yet.
-pub(crate) fn judge(alloc: Global, bytes: &[u8]) -> Result<Option<(Request, usize)>, WireError>
-    ensures within { IfOk result (λ found. IfSome found (λ f. f.1 ≤ length bytes.now)) }
-    ensures front { Tells result (IsFront bytes.now) }
+/// The parts of the request at the front, or None where it hasn't come yet.
+pub(crate) fn judge(alloc: Global, bytes: &[u8]) -> Result<Option<Parts>, WireError>
+    ensures order { IfOk result (λ found. IfSome found (λ parts. parts.head_len ≤ parts.len)) }
+    ensures within { IfOk result (λ found. IfSome found (λ parts. parts.len ≤ length bytes.now)) }
+    ensures front { Tells (with_body bytes.now result) (IsFront bytes.now) }
 {
     let mut spans = [EMPTY_HEADER_SPAN; FIELDS_MOST];
     judge_with(alloc, bytes, &mut spans)
