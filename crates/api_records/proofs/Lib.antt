@@ -1,0 +1,4 @@
+pub mod Serials
+pub mod RecordLemmas
+pub mod BodyLemmas
+pub mod StorableLemmas
