@@ -1,0 +1,4 @@
+mod Entries
+mod PayloadLemmas
+mod VersionLemmas
+mod Steps
