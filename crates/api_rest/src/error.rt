@@ -1,0 +1,59 @@
+use std::alloc::{AllocError, AllocFailed};
+use sysapi_base::{Memory, Text};
+
+/// Why a body is no document of its route.
+#[derive(Debug, Drop)]
+pub enum BodyError {
+    /// The bytes are no JSON text (RFC 8259) in UTF-8.
+    BadJson,
+    /// A number in it isn't whole, or out of range.
+    NotWhole,
+    /// Its lists and objects nest too deep.
+    TooDeep,
+    /// The value of this key is the first wrong one. The key is empty where the body is no object.
+    BadShape { key: Text },
+}
+
+/// Why a request asks for no call.
+#[derive(Debug, Drop)]
+pub enum RestError {
+    /// No call has this path and method.
+    NoRoute,
+    /// The body asks for no command.
+    BadBody { why: BodyError },
+    /// No memory was found.
+    Memory,
+}
+
+impl From<Memory> for RestError {
+    ghost use Rattle.std.specs.Prelude.{◌≡◌};
+    ghost use Rattle.api_rest.specs.declared.error.RestError.TheVariants as rest;
+
+    ghost from_gives = { λ _ e. e ≡ rest.Memory };
+
+    fn from(_error: Memory) -> RestError {
+        RestError::Memory
+    }
+}
+
+impl From<AllocError> for RestError {
+    ghost use Rattle.std.specs.Prelude.{◌≡◌};
+    ghost use Rattle.api_rest.specs.declared.error.RestError.TheVariants as rest;
+
+    ghost from_gives = { λ _ e. e ≡ rest.Memory };
+
+    fn from(_error: AllocError) -> RestError {
+        RestError::Memory
+    }
+}
+
+impl<T: Drop> From<AllocFailed<T>> for RestError {
+    ghost use Rattle.std.specs.Prelude.{◌≡◌};
+    ghost use Rattle.api_rest.specs.declared.error.RestError.TheVariants as rest;
+
+    ghost from_gives = { λ _ e. e ≡ rest.Memory };
+
+    fn from(_failed: AllocFailed<T>) -> RestError {
+        RestError::Memory
+    }
+}

@@ -1,0 +1,12 @@
+//! From requests to calls, and from replies to responses: the binding of the repository to HTTP (Systems Modeling API 1.0, REST/HTTP
+//! binding).
+#![tactic(auto)]
+
+mod error;
+mod place;
+mod response;
+mod routing;
+
+pub use error::{BodyError, RestError};
+pub use response::{is_head, respond, respond_error, respond_wire};
+pub use routing::route;
