@@ -11,7 +11,7 @@ use Rattle.http_wire.specs.Streams.{TakesAll, EndsClosed, Fronts}
 use Rattle.http_wire.proofs.NothingLemmas.{nothing_yet}
 use Rattle.http_wire.proofs.FrontLemmas.{front_unique, front_append}
 use Rattle.http_wire.proofs.StreamLemmas.{TakesAll-append, whole_is_not_yet, refused_is_not_yet, whole_stream}
-use Rattle.sysapi_serve.specs.declared.command.Entry.{Entry}
+use Rattle.entry_codec.specs.declared.entry.Entry.{Entry}
 use Rattle.sysapi_serve.specs.declared.outcome.Outcome.{Outcome}
 use Rattle.sysapi_serve.specs.declared.outcome.Outcome.TheVariants.{Ended, Closed, Refused, CutShort, ReadFault, WriteFault, Spent, Memory}
 use Rattle.sysapi_serve.specs.declared.session.TheConstants.{BYTES_MOST}

@@ -12,12 +12,12 @@ use Rattle.http_wire.specs.declared.request.Request.{Request}
 use Rattle.http_wire.specs.Fronts.{not_yet, IsFront, Takes}
 use Rattle.http_wire.specs.Streams.{TakesAll, EndsClosed}
 use Rattle.http_wire.proofs.StreamLemmas.{TakesAll-append, TakesAll-push, all_unclosed}
-use Rattle.sysapi_serve.specs.declared.command.Entry.{Entry}
+use Rattle.entry_codec.specs.declared.entry.Entry.{Entry}
 use Rattle.sysapi_serve.specs.declared.outcome.Outcome.{Outcome}
 use Rattle.sysapi_serve.specs.declared.outcome.Outcome.TheVariants.{Ended, Closed, Refused, CutShort, ReadFault, WriteFault, Spent, Memory}
 use Rattle.sysapi_serve.specs.Kept.{Kept, past, with_entry}
 use Rattle.sysapi_serve.specs.Alone.{unbounded, IsServed}
-use Rattle.sysapi_serve.specs.Routes.{routed}
+use Rattle.api_rest.specs.Routes.{routed}
 use Rattle.sysapi_serve.specs.Sessions.{Keeping, responded, unaccepted, faulty, Answer, entry_for, entry_of, accepted, StandsAt, point_after, Fits, IsText, IsAnswered, IsTranscript, IsAlone, IsFaultless, requests_of, moments_of, texts_of, Adds, IsCut, HasLast, IsWritten}
 use Rattle.sysapi_serve.specs.Parts.{Judges, IsLast, Closes, Answers, CutsAnswer, EndsTurn, read_result}
 

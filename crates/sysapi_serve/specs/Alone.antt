@@ -2,7 +2,7 @@
 use Rattle.std.specs.Prelude.{◌≡◌, ℕ, false, List, ◌++◌, length, Option}
 use Rattle.std.specs.Io.KnownBytes.{Consumes}
 use Rattle.sysapi_base.specs.Outside.{Grows}
-use Rattle.sysapi_serve.specs.declared.command.Entry.{Entry}
+use Rattle.entry_codec.specs.declared.entry.Entry.{Entry}
 use Rattle.sysapi_serve.specs.declared.outcome.Served.{Served}
 use Rattle.sysapi_serve.specs.Kept.{Kept}
 use Rattle.sysapi_serve.specs.Sessions.{Keeping, IsSession, IsAlone, IsFaultless}

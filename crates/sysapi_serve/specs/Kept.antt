@@ -1,6 +1,6 @@
 -- What contracts see of a repository over a list in memory.
 use Rattle.std.specs.Prelude.{ℕ, List, [], ◌∷◌, ◌++◌, reverse, Option, Some, None}
-use Rattle.sysapi_serve.specs.declared.command.Entry.{Entry}
+use Rattle.entry_codec.specs.declared.entry.Entry.{Entry}
 
 -- its number and its history, the oldest entry first
 pub record Kept : Type 0 where

@@ -4,7 +4,7 @@ use Rattle.std.specs.List.Sorted.{IsNonDecreasing}
 use Rattle.http_wire.specs.declared.request.Request.{Request}
 use Rattle.http_wire.specs.Fronts.{refused, not_yet}
 use Rattle.http_wire.specs.Streams.{TakesAll, EndsClosed, Fronts}
-use Rattle.sysapi_serve.specs.declared.command.Entry.{Entry}
+use Rattle.entry_codec.specs.declared.entry.Entry.{Entry}
 use Rattle.sysapi_serve.specs.declared.outcome.Outcome.{Outcome}
 use Rattle.sysapi_serve.specs.declared.outcome.Outcome.TheVariants.{Ended, Closed, Refused, CutShort, ReadFault, WriteFault, Spent, Memory}
 use Rattle.sysapi_serve.specs.declared.session.TheConstants.{BYTES_MOST}

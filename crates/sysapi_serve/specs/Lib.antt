@@ -1,6 +1,3 @@
-pub mod Histories
-pub mod Replies
-pub mod Routes
 pub mod Texts
 pub mod Sessions
 pub mod Kept

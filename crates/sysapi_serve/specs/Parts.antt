@@ -1,5 +1,5 @@
 -- What the parts of the code do, each by cases on its answer. Want of memory is told apart, and says nothing.
-use Rattle.std.specs.Prelude.{◌≡◌, ℕ, ◌⊎◌, ◌<◌, ◌≤◌, true, false, List, [], ◌∷◌, ◌++◌, length, Option, Some, None, Result, Ok, Err, MatchResult, ⊤}
+use Rattle.std.specs.Prelude.{◌≡◌, ℕ, ◌⊎◌, ◌<◌, ◌≤◌, true, false, List, [], ◌∷◌, ◌++◌, length, Option, Result, Ok, Err, MatchResult, ⊤}
 use Rattle.std.specs.Io.KnownBytes.{Consumes, IsAtEnd}
 use Rattle.sysapi_base.specs.Outside.{Grows}
 use Rattle.http_wire.specs.declared.request.Request.{Request}
@@ -7,33 +7,14 @@ use Rattle.http_wire.specs.Fronts.{refused, not_yet, IsFront, Takes}
 use Rattle.http_wire.specs.Responses.{fixed_text}
 use Rattle.sysapi_serve.specs.declared.outcome.Outcome.{Outcome}
 use Rattle.sysapi_serve.specs.declared.outcome.Outcome.TheVariants as outcome
-use Rattle.sysapi_serve.specs.declared.route.RestError.{RestError}
-use Rattle.sysapi_serve.specs.declared.route.RestError.TheVariants.{NoRoute, BadJson, Memory}
 use Rattle.sysapi_serve.specs.declared.turn.Turn.{Turn}
 use Rattle.sysapi_serve.specs.declared.turn.Turn.TheVariants as turn
 use Rattle.sysapi_serve.specs.declared.turn.More.{More}
 use Rattle.sysapi_serve.specs.declared.turn.More.TheVariants as more
 use Rattle.sysapi_serve.specs.Kept.{Kept, past, with_entry}
-use Rattle.sysapi_serve.specs.Routes.{routed}
+use Rattle.api_rest.specs.Routes.{routed}
 use Rattle.sysapi_serve.specs.Texts.{response_to, fixed_for, wire_text}
 use Rattle.sysapi_serve.specs.Sessions.{entry_for, IsCut}
-
--- ---- routing
-
--- an answer is the routed one, unless memory was wanting
-abbrev pub IsError : {A : Type 0} → RestError → Result A RestError → Type 0
-IsError NoRoute expected = expected ≡ Err NoRoute
-IsError BadJson expected = expected ≡ Err BadJson
-IsError Memory expected = ⊤
-
-abbrev pub Gives : {A : Type 0} → Result A RestError → Result A RestError → Type 0
-Gives (Ok a) expected = expected ≡ Ok a
-Gives (Err e) expected = IsError e expected
-
--- a value that may be wrong, which is told as BadJson
-abbrev pub or_bad : {A : Type 0} → Option A → Result A RestError
-or_bad None = Err BadJson
-or_bad (Some a) = Ok a
 
 -- ---- judging
 

@@ -5,16 +5,16 @@ use Rattle.std.specs.List.{flat_map}
 use Rattle.http_wire.specs.declared.request.Request.{Request}
 use Rattle.http_wire.specs.Fronts.{refused, not_yet, IsFront}
 use Rattle.http_wire.specs.Streams.{TakesAll, EndsClosed}
-use Rattle.sysapi_serve.specs.declared.command.Entry.{Entry}
-use Rattle.sysapi_serve.specs.declared.call.Call.{Call}
-use Rattle.sysapi_serve.specs.declared.call.Call.TheVariants.{Write, Read}
-use Rattle.sysapi_serve.specs.declared.reply.Refusal.{Refusal}
-use Rattle.sysapi_serve.specs.declared.route.RestError.{RestError}
+use Rattle.entry_codec.specs.declared.entry.Entry.{Entry}
+use Rattle.entry_codec.specs.declared.call.Call.{Call}
+use Rattle.entry_codec.specs.declared.call.Call.TheVariants.{Write, Read}
+use Rattle.api_records.specs.declared.refusal.Refusal.{Refusal}
+use Rattle.api_rest.specs.declared.error.RestError.{RestError}
 use Rattle.sysapi_serve.specs.declared.outcome.Outcome.{Outcome}
 use Rattle.sysapi_serve.specs.declared.outcome.Outcome.TheVariants.{Ended, Closed, Refused, CutShort, ReadFault, WriteFault, Spent, Memory}
 use Rattle.sysapi_serve.specs.declared.session.TheConstants.{BYTES_MOST}
-use Rattle.sysapi_serve.specs.Histories.{refusal}
-use Rattle.sysapi_serve.specs.Routes.{routed}
+use Rattle.entry_codec.specs.Refusals.{refusal}
+use Rattle.api_rest.specs.Routes.{routed}
 use Rattle.sysapi_serve.specs.Texts.{response_to, fixed_for, wire_text}
 use Rattle.http_wire.specs.Responses.{fixed_text}
 

@@ -1,78 +1,39 @@
-//! The repository: the list of accepted commands.
+//! The repository: its state, and the list of accepted commands.
 
-ghost use Rattle.std.specs.Prelude.{◌≡◌, ◌≢◌, ◌<◌, ◌+◌, ◌*◌, ◌^◌, [], ℕ, Some, length, IfOk, OnOk, OnErr, MatchOption};
-ghost use Rattle.sysapi_base.specs.Id.{made_id};
-ghost use Rattle.sysapi_serve.specs.Histories.{next_serial, project_made, project_at};
+ghost use Rattle.std.specs.Prelude.{◌≡◌, ◌<◌, ◌^◌, [], Some, OnOk, OnErr};
 
-use crate::command::{Command, Entry};
-use crate::document::copy_optional;
-use crate::record::Project;
+use entry_codec::Entry;
+use repo_state::State;
 use std::alloc::Global;
 use std::marker::Model;
-use sysapi_base::{Id, Memory, Moment};
+use sysapi_base::Memory;
 
-/// The serials of ids have so many bits.
-const SERIAL_BITS: u32 = 62;
-
-/// The accepted commands of one repository, in order.
-#[derive(Debug, Drop)]
+/// The accepted commands of one repository, in order, and what they have made.
+#[derive(Drop)]
 pub struct Repo {
-    repository: u64,
-    entries: Vec<Entry>,
+    state: State,
+    history: Vec<Entry>,
 }
 
 impl Model for Repo {
-    ghost use Rattle.std.specs.Prelude.{◌<◌, ◌^◌};
+    ghost use Rattle.std.specs.Prelude.{◌≡◌, reverse};
+    ghost use Rattle.std.specs.Coded.{codes};
+    ghost use Rattle.doc_value.specs.Document.{coded_document};
+    ghost use Rattle.repo_state.specs.Stands.{StandsFor, repository_of};
     ghost use Rattle.sysapi_serve.specs.Kept.{Kept};
 
     ghost Value = { Kept };
 
-    ghost view = { λ a. record { repository = a.repository; history = a.entries.items } };
+    ghost coded = { Prim.hlevel (codes, coded_document) };
 
-    ghost invariant = { λ a. a.repository < 2 ^ 48 };
-}
+    ghost view = { λ a. record { repository = repository_of a.state; history = a.history.items } };
 
-/// The project that the command at this place of the history makes. Each command before it drew two serials.
-fn project_of(
-    alloc: Global,
-    repository: u64,
-    place: usize,
-    moment: Moment,
-    command: &Command,
-) -> Result<Project, Memory>
-    requires number { repository < 2 ^ 48 }
-    requires place { place < 2 ^ 60 }
-    ensures { IfOk result (λ p. project_made repository (2 * place) moment command.now ≡ Some p) }
-{
-    let Command::CreateProject { name, description } = command;
-    let serial = 2 * place as u64;
-    Ok(Project {
-        id: Id::made(repository, serial),
-        name: copy_optional(alloc, name)?,
-        description: copy_optional(alloc, description)?,
-        default_branch: Id::made(repository, serial + 1),
-        created: moment,
-    })
-}
-
-/// The place of the command that made the project with this id, among so many.
-fn place_of(repository: u64, id: Id, count: usize) -> Option<usize>
-    requires number { repository < 2 ^ 48 }
-    requires few { count < 2 ^ 60 }
-    ensures { MatchOption result ((k : ℕ) → k < count → made_id repository (2 * k) ≢ id)
-        (λ k. (k < count) × (made_id repository (2 * k) ≡ id)) }
-{
-    let serial = (id.number() % (1 << SERIAL_BITS)) as u64;
-    let place = (serial / 2) as usize;
-    if place < count && Id::made(repository, 2 * place as u64) == id {
-        Some(place)
-    } else {
-        None
-    }
+    ghost invariant = { λ a. StandsFor a.state (reverse a.history.items) };
 }
 
 impl Repo {
-    ghost use Rattle.std.specs.Prelude.{List, ◌++◌, ◌∷◌};
+    ghost use Rattle.std.specs.Prelude.{◌∷◌};
+    ghost use Rattle.repo_state.specs.Stands.{StandsFor, repository_of};
     ghost use Rattle.sysapi_serve.specs.Kept.{past, with_entry};
 
     /// A repository with this number and no entries.
@@ -81,51 +42,28 @@ impl Repo {
         ensures { result ≡ record { repository = repository; history = [] } }
     {
         Repo {
-            repository,
-            entries: Vec::new(alloc),
+            state: State::start(alloc, repository),
+            history: Vec::new(alloc),
         }
     }
 
-    /// The project with this id.
-    pub(crate) fn project(&self, alloc: Global, id: Id) -> Result<Option<Project>, Memory>
-        requires { length self.now.history < 2 ^ 60 }
-        ensures { IfOk result (λ found. found ≡ project_at self.now.repository (past self.now) id) }
+    /// What the entries have made.
+    pub(crate) fn state(&self) -> &State
+        ensures number { repository_of result.now ≡ self.now.repository }
+        ensures stands { StandsFor result.now (past self.now) }
     {
-        match place_of(self.repository, id, self.entries.len()) {
-            Some(place) => {
-                let entry = &self.entries[place];
-                let project = project_of(
-                    alloc,
-                    self.repository,
-                    place,
-                    entry.moment,
-                    &entry.command,
-                )?;
-                Ok(Some(project))
-            }
-            None => Ok(None),
-        }
+        &self.state
     }
 
-    /// The project that a command makes next.
-    pub(crate) fn next_project(
-        &self,
-        alloc: Global,
-        moment: Moment,
-        command: &Command,
-    ) -> Result<Project, Memory>
-        requires { length self.now.history < 2 ^ 60 }
-        ensures { IfOk result (λ p. project_made self.now.repository (next_serial (past self.now)) moment command.now ≡ Some p) }
-    {
-        project_of(alloc, self.repository, self.entries.len(), moment, command)
-    }
-
-    /// Adds an entry.
-    pub(crate) fn push(&mut self, entry: Entry) -> Result<(), Memory>
+    /// Adds an entry, and takes the state behind it.
+    pub(crate) fn keep(&mut self, state: State, entry: Entry) -> Result<(), Memory>
+        requires number { repository_of state ≡ self.old.repository }
+        requires stands { StandsFor state (entry ∷ past self.old) }
         ensures ok { OnOk result (self.new ≡ with_entry self.old (Some entry)) }
         ensures err { OnErr result (self.new ≡ self.old) }
     {
-        self.entries.push(entry)?;
+        self.history.push(entry)?;
+        self.state = state;
         Ok(())
     }
 }

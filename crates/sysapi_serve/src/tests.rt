@@ -1,3 +1,5 @@
+mod commits;
+
 use super::*;
 use std::alloc::Global;
 use std::test::Fail;
@@ -233,23 +235,35 @@ fn bad_bodies(rt: HostRuntime) -> Result<(), Fail> {
     let alloc = rt.alloc();
     let mut deep = vec![in alloc; b'['; 101]?;
     deep.extend_from_slice(&[b']'; 101])?;
-    let bodies: [&[u8]; 12] = [
-        b"",
-        b"{",
-        b"\xff",
-        b"{\"name\":\"P\"}}",
-        b"[]",
-        b"7",
-        b"null",
-        b"{\"name\":7}",
-        b"{\"description\":[]}",
-        b"{\"name\":\"P\",\"x\":1.5}",
-        b"{\"name\":\"P\",\"x\":18446744073709551616}",
-        &deep,
+    let bodies: [(&[u8], &str); 13] = [
+        (b"", "\"bad-json\""),
+        (b"{", "\"bad-json\""),
+        (b"\xff", "\"bad-json\""),
+        (b"{\"name\":\"P\"}}", "\"bad-json\""),
+        (b"[]", "\"bad-body\",\"key\":\"\""),
+        (b"7", "\"bad-body\",\"key\":\"\""),
+        (b"null", "\"bad-body\",\"key\":\"\""),
+        (b"{\"name\":7}", "\"bad-body\",\"key\":\"name\""),
+        (
+            b"{\"description\":[],\"name\":7}",
+            "\"bad-body\",\"key\":\"name\"",
+        ),
+        (
+            b"{\"description\":[]}",
+            "\"bad-body\",\"key\":\"description\"",
+        ),
+        (b"{\"name\":\"P\",\"x\":1.5}", "\"not-whole\""),
+        (
+            b"{\"name\":\"P\",\"x\":18446744073709551616}",
+            "\"not-whole\"",
+        ),
+        (&deep, "\"too-deep\""),
     ];
-    for body in &bodies {
+    for (body, error) in &bodies {
         let ran = once(alloc, &post(alloc, body)?)?;
-        assert_eq!(rt; ran.output.as_slice(), BAD_JSON);
+        let told = format!(in alloc; "{{\"@type\":\"Error\",\"error\":{error}}}")?;
+        let expected = commits::response(alloc, "400 Bad Request", told.as_str())?;
+        assert_eq!(rt; ran.output.as_slice(), expected.as_slice());
         assert_eq!(rt; ran.status, 0);
     }
     Ok(())

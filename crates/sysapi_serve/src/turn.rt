@@ -1,31 +1,30 @@
 //! One turn of a session: the request at the front is answered, or more is read.
 
-ghost use Rattle.std.specs.Prelude.{◌≡◌, ◌≢◌, ◌<◌, ◌^◌, ◌⊎◌, ℕ, List, Result, Ok, IsErr, IfOk, OnOk, OnErr, length};
-ghost use Rattle.http_wire.specs.Fronts.{refused, IsFront};
-ghost use Rattle.sysapi_serve.specs.Replies.{read_reply, reply};
+ghost use Rattle.std.specs.Prelude.{◌≡◌, ◌≢◌, ◌<◌, ◌^◌, ◌⊎◌, ℕ, List, [], Result, Ok, IsErr, IfOk, OnOk, OnErr, length};
 ghost use Rattle.sysapi_base.specs.Outside.{Grows, Passes};
-ghost use Rattle.doc_value.specs.Document.{IsSound};
-ghost use Rattle.doc_value.specs.Seen.{document};
-ghost use Rattle.http_wire.specs.Responses.{fixed_text};
-ghost use Rattle.sysapi_serve.specs.declared.command.Entry.{Entry as Accepted};
-ghost use Rattle.sysapi_serve.specs.declared.call.Call.{Call as Asked};
-ghost use Rattle.sysapi_serve.specs.declared.route.RestError.{RestError as RestFault};
+ghost use Rattle.http_wire.specs.Fronts.{refused, IsFront};
+ghost use Rattle.http_wire.specs.Responses.{HasPhrase, response_text};
+ghost use Rattle.api_records.specs.Storable.{IsStorable};
+ghost use Rattle.entry_codec.specs.declared.entry.Entry.{Entry as Accept};
+ghost use Rattle.entry_codec.specs.declared.call.Call.{Call as Asked};
+ghost use Rattle.entry_codec.specs.Replies.{IsSoundReply, reply};
+ghost use Rattle.api_rest.specs.declared.error.RestError.{RestError as RestFault};
+ghost use Rattle.api_rest.specs.Routes.{IsError, IsStorableCall};
 ghost use Rattle.sysapi_serve.specs.Kept.{past, with_entry};
-ghost use Rattle.sysapi_serve.specs.Texts.{response_to, reply_doc, reply_text, text_of};
+ghost use Rattle.sysapi_serve.specs.Texts.{response_to, reply_text, error_text, text_of, wire_text};
 ghost use Rattle.sysapi_serve.specs.Sessions.{entry_for};
-ghost use Rattle.sysapi_serve.specs.Parts.{IsError, after, Judges, Sends, Closes, CutsAnswer, TurnDoes, ReadDoes, IsGotWithin, turn_result, more_result, write_result};
+ghost use Rattle.sysapi_serve.specs.Parts.{after, Judges, Sends, Closes, CutsAnswer, TurnDoes, ReadDoes, IsGotWithin, turn_result, more_result, write_result};
 
-use crate::call::{Call, ReadCall};
-use crate::command::{Command, Entry};
 use crate::outcome::Outcome;
-use crate::reply::{Refusal, Reply};
 use crate::repo::Repo;
-use crate::respond::{Form, is_head, respond_error, respond_reply, respond_wire};
-use crate::route::{RestError, route};
 use crate::send::send;
-use http_wire::{Feed, Request, WireError, fixed_response};
+use api_records::Command;
+use api_rest::{RestError, is_head, respond, respond_error, respond_wire, route};
+use entry_codec::{Call, Entry, Reply};
+use http_wire::{Feed, Request, WireError, fixed_response, write_response};
+use repo_state::{AcceptError, Accepted};
 use std::alloc::Global;
-use sysapi_base::{Clock, Failed, Memory, Moment, Sink, Source};
+use sysapi_base::{Bytes, Clock, Failed, Memory, Moment, Sink, Source};
 
 /// What became of the front of the feed.
 pub(crate) enum Turn {
@@ -42,20 +41,23 @@ pub(crate) enum More {
     NoMemory,
 }
 
-/// The reply to a read.
-fn read_reply(alloc: Global, repo: &Repo, call: ReadCall) -> Result<Reply, Memory>
-    requires { length repo.now.history < 2 ^ 60 }
-    ensures reply { IfOk result (λ r. r ≡ read_reply repo.now.repository (past repo.now) call) }
-    ensures sound { IfOk result (λ r. IsSound (document (reply_doc r))) }
+/// The bytes that tell a reply, which is let go before they are joined.
+fn reply_text(
+    alloc: Global,
+    request: &Request,
+    reply: Reply,
+    moment: Moment,
+) -> Result<Vec<u8>, Memory>
+    requires { IsSoundReply reply }
+    ensures { IfOk result (λ text. text.items ≡ reply_text request.now moment reply) }
 {
-    let ReadCall::OneProject { project } = call;
-    match repo.project(alloc, project)? {
-        Some(project) => Ok(Reply::Found(project.to_doc(alloc)?)),
-        None => Ok(Reply::Refused(Refusal::UnknownProject)),
-    }
+    let response = respond(alloc, request, &reply, moment)?;
+    drop(reply);
+    write_response(alloc, &response)
 }
 
-/// The bytes that answer a command, whose entry then stands behind the others. All memory is found before it does.
+/// The bytes that answer a command, whose entry then stands behind the others where it isn't refused. All memory is found before it
+/// does.
 fn accept(
     alloc: Global,
     repo: &mut Repo,
@@ -63,16 +65,23 @@ fn accept(
     moment: Moment,
     command: Command,
 ) -> Result<Vec<u8>, Memory>
-    requires { length repo.old.history < 2 ^ 60 }
+    requires few { length repo.old.history < 2 ^ 60 }
+    requires storable { IsStorable command }
     ensures ok { IfOk result (λ text. text.items ≡ reply_text request.now moment (reply repo.old.repository (past repo.old) moment (Call.Write command))) }
     ensures accepted { OnOk result (repo.new ≡ with_entry repo.old (entry_for repo.old.repository (past repo.old) moment (Ok (Call.Write command)))) }
     ensures err { OnErr result (repo.new ≡ repo.old) }
 {
-    let project = repo.next_project(alloc, moment, &command)?;
-    let reply = Reply::Made(project.to_doc(alloc)?);
-    let text = respond_reply(alloc, request, &reply, moment)?;
-    repo.push(Entry { moment, command })?;
-    Ok(text)
+    match repo.state().accept(alloc, moment, &command) {
+        Ok(Accepted { state, reply }) => {
+            let text = reply_text(alloc, request, reply, moment)?;
+            repo.keep(state, Entry { moment, command })?;
+            Ok(text)
+        }
+        Err(AcceptError::Refused(why)) => {
+            reply_text(alloc, request, Reply::Refused(why), moment)
+        }
+        Err(AcceptError::Memory) => Err(Memory),
+    }
 }
 
 /// The bytes that answer a call. Where no memory was found nothing is accepted.
@@ -83,7 +92,8 @@ fn answer_call(
     moment: Moment,
     call: Call,
 ) -> Result<Vec<u8>, Memory>
-    requires { length repo.old.history < 2 ^ 60 }
+    requires few { length repo.old.history < 2 ^ 60 }
+    requires storable { IsStorableCall call }
     ensures ok { IfOk result (λ text. text.items ≡ reply_text request.now moment (reply repo.old.repository (past repo.old) moment call)) }
     ensures accepted { OnOk result (repo.new ≡ with_entry repo.old (entry_for repo.old.repository (past repo.old) moment (Ok call))) }
     ensures err { OnErr result (repo.new ≡ repo.old) }
@@ -91,8 +101,8 @@ fn answer_call(
     match call {
         Call::Write(command) => accept(alloc, repo, request, moment, command),
         Call::Read(call) => {
-            let reply = read_reply(alloc, repo, call)?;
-            respond_reply(alloc, request, &reply, moment)
+            let reply = repo_read::answer(alloc, repo.state(), &call)?;
+            reply_text(alloc, request, reply, moment)
         }
     }
 }
@@ -102,21 +112,26 @@ fn answer_error(
     alloc: Global,
     request: &Request,
     moment: Moment,
-    error: RestError,
+    error: &RestError,
 ) -> Result<Vec<u8>, Memory>
-    ensures text { IfOk result (λ text. (r : ℕ) (history : List Accepted) (expected : Result Asked RestFault) → IsError error expected
+    ensures text { IfOk result (λ text. (r : ℕ) (history : List Accept) (expected : Result Asked RestFault) → IsError error.now expected
         → text.items ≡ text_of r history request.now moment expected) }
-    ensures none { OnOk result ((expected : Result Asked RestFault) → IsError error expected → IsErr expected) }
+    ensures none { OnOk result ((expected : Result Asked RestFault) → IsError error.now expected → IsErr expected) }
 {
-    let form = Form {
-        moment,
-        close: request.close,
-        no_body: is_head(request),
-    };
-    match error {
-        RestError::NoRoute => respond_error(alloc, 404, "no-route", form),
-        RestError::BadJson => respond_error(alloc, 400, "bad-json", form),
-        RestError::Memory => Err(Memory),
+    if let RestError::Memory = error {
+        return Err(Memory);
+    }
+    let response = respond_error(alloc, request, error, moment)?;
+    write_response(alloc, &response)
+}
+
+/// The same request, its body let go: no response needs it.
+fn without_body(alloc: Global, request: Request) -> Request
+    ensures { result ≡ record request { body = [] } }
+{
+    Request {
+        body: Bytes::of(Vec::new(alloc)),
+        ..request
     }
 }
 
@@ -125,17 +140,19 @@ fn answer_error(
 fn judge(
     alloc: Global,
     repo: &mut Repo,
-    request: &Request,
+    request: Request,
     moment: Moment,
 ) -> Result<Vec<u8>, Memory>
     requires { length repo.old.history < 2 ^ 60 }
-    ensures ok { IfOk result (λ text. text.items ≡ response_to repo.old.repository (past repo.old) request.now moment) }
-    ensures accepted { OnOk result (repo.new ≡ after repo.old request.now moment) }
+    ensures ok { IfOk result (λ text. text.items ≡ response_to repo.old.repository (past repo.old) request moment) }
+    ensures accepted { OnOk result (repo.new ≡ after repo.old request moment) }
     ensures err { OnErr result (repo.new ≡ repo.old) }
 {
-    match route(alloc, request) {
-        Ok(call) => answer_call(alloc, repo, request, moment, call),
-        Err(error) => answer_error(alloc, request, moment, error),
+    let routed = route(alloc, &request);
+    let request = without_body(alloc, request);
+    match routed {
+        Ok(call) => answer_call(alloc, repo, &request, moment, call),
+        Err(error) => answer_error(alloc, &request, moment, &error),
     }
 }
 
@@ -143,19 +160,21 @@ fn judge(
 fn answer<K: Sink>(
     alloc: Global,
     repo: &mut Repo,
-    request: &Request,
+    request: Request,
     moment: Moment,
     sink: &mut K,
 ) -> Result<(), Failed>
     requires { length repo.old.history < 2 ^ 60 }
-    ensures sent { (text : List ℕ) × Judges repo.old request.now moment text repo.new
+    ensures sent { (text : List ℕ) × Judges repo.old request moment text repo.new
         × Sends (K.taken sink.old) (K.taken sink.new) text result }
     ensures passes { Passes K.faults K.IsSteady sink.old sink.new result }
 {
+    let close = request.close;
+    let no_body = is_head(&request);
     match judge(alloc, repo, request, moment) {
         Ok(text) => send(sink, &text),
         Err(Memory) => {
-            let text = fixed_response(503, moment, request.close, is_head(request));
+            let text = fixed_response(503, moment, close, no_body);
             send(sink, text.as_slice())
         }
     }
@@ -183,6 +202,15 @@ pub(crate) fn close_busy<K: Sink>(sink: &mut K, moment: Moment) -> Outcome
     close(sink, text.as_slice(), Outcome::Memory)
 }
 
+/// The bytes that tell an error of the stream.
+fn refusal_text(alloc: Global, error: WireError, moment: Moment) -> Result<Vec<u8>, Memory>
+    requires { error ≢ WireError.Memory }
+    ensures { IfOk result (λ text. text.items ≡ wire_text error moment) }
+{
+    let response = respond_wire(alloc, error, moment)?;
+    write_response(alloc, &response)
+}
+
 /// Ends the session by the response to an error.
 fn refuse<K: Sink>(alloc: Global, error: WireError, moment: Moment, sink: &mut K) -> Outcome
     ensures closes { (rest : List ℕ) → (error ≢ WireError.Memory → IsFront rest (refused error))
@@ -192,7 +220,7 @@ fn refuse<K: Sink>(alloc: Global, error: WireError, moment: Moment, sink: &mut K
     if error == WireError::Memory {
         return close_busy(sink, moment);
     }
-    match respond_wire(alloc, error, moment) {
+    match refusal_text(alloc, error, moment) {
         Ok(text) => close(sink, &text, Outcome::Refused(error)),
         Err(Memory) => close_busy(sink, moment),
     }
@@ -211,7 +239,7 @@ pub(crate) fn take_turn<K: Sink, C: Clock>(
     ensures passes { Passes K.faults K.IsSteady sink.old sink.new (turn_result result) }
 {
     match feed.next(alloc) {
-        Some(Ok(request)) => match answer(alloc, repo, &request, clock.now(), sink) {
+        Some(Ok(request)) => match answer(alloc, repo, request, clock.now(), sink) {
             Ok(()) => Turn::Answered,
             Err(Failed) => Turn::Ends(Outcome::WriteFault),
         },

@@ -1,17 +1,20 @@
 use Rattle.std.proofs.Common.{ap, sym}
 use Rattle.std.proofs.lemmas.Result.{IfOk-weaker, on_ok_weaker}
+use Rattle.api_rest.specs.Routes.{routed}
 use Rattle.sysapi_serve.specs.Kept.{past, with_entry}
-use Rattle.sysapi_serve.specs.Routes.{routed}
-use Rattle.sysapi_serve.proofs.TurnLemmas.{entry_none}
+use Rattle.sysapi_serve.proofs.TurnLemmas.{entry_none, text-without_body}
 use Rattle.sysapi_serve.proofs.turn.judge.Goals as goal
 
-pub returns-in-Err-clause-ok : goal.returns-in-Err-clause-ok
-returns-in-Err-clause-ok c =
+pub returns-clause-ok : goal.returns-clause-ok
+returns-clause-ok c =
     let repo = c.args.repo.now in
-    IfOk-weaker c.answer_error.result _ _ (λ text is. is repo.repository (past repo) (routed c.args.request.now) c.in-Err.ensures) c.answer_error.ensures.text
+    let asked = routed c.args.request in
+    IfOk-weaker c.answer_error.result _ _
+    (λ text is. text-without_body repo.repository (past repo) c.args.request c.without_body-request.result c.args.moment asked text.items c.without_body-request.ensures
+    (is repo.repository (past repo) asked c.in-Err.ensures.exact)) c.answer_error.ensures.text
 
-pub returns-in-Err-clause-accepted : goal.returns-in-Err-clause-accepted
-returns-in-Err-clause-accepted c =
+pub returns-clause-accepted : goal.returns-clause-accepted
+returns-clause-accepted c =
     let repo = c.args.repo.now in
     on_ok_weaker c.answer_error.result
-    (λ none. sym (ap (with_entry repo) (entry_none repo.repository (past repo) c.args.moment (routed c.args.request.now) (none (routed c.args.request.now) c.in-Err.ensures)))) c.answer_error.ensures.none
+    (λ none. sym (ap (with_entry repo) (entry_none repo.repository (past repo) c.args.moment (routed c.args.request) (none (routed c.args.request) c.in-Err.ensures.exact)))) c.answer_error.ensures.none
