@@ -2,7 +2,8 @@
 
 For each kind of stream, of N and of 2N requests, it prints one row: the requests a second by the clock on the wall, the
 processor time of a request, that time over the yardstick's (bench/yardstick.py), the processor time for 2N over that for N, and
-the program's peak of resident memory. Each time is the least of a few runs; processor time is told because other work on the
+the program's peak of resident memory. Commits of one change are a tenth as many, and a commit of many payloads is one request,
+of N/2 and of N payloads. Each time is the least of a few runs; processor time is told because other work on the
 machine changes it least. Starting up doesn't count: the program's times are less those of an empty stream.
 Usage: once.py [--requests N] [--rounds N] [PROGRAM]
 """
@@ -16,34 +17,70 @@ import tempfile
 import time
 
 HERE = os.path.dirname(os.path.abspath(__file__))
-PROGRAM = os.path.join(os.path.dirname(HERE), "crates", "sysapi", "out", "sysapi")
+sys.path.insert(0, os.path.join(os.path.dirname(HERE), "checks"))
 
-POST = b'POST /projects HTTP/1.1\r\nHost: h\r\nContent-Length: 12\r\n\r\n{"name":"P"}'
-GET = b"GET /projects/00000000-0001-8000-8000-000000000000 HTTP/1.1\r\nHost: h\r\n\r\n"
+from common import PROGRAM, commits_of, element_at, get, made_id, post, program_at  # noqa: E402
+
+COMMITS = commits_of(made_id(0))
+PROJECT = post(b'{"name":"P"}')
+
+
+def element(number):
+    """The identity of one of a few elements."""
+    return "11111111-1111-4111-8111-%012x" % (number % 100)
+
+
+def change(number, name):
+    """A change that sets the name of one of the elements."""
+    return '{"identity":{"@id":"%s"},"payload":{"@type":"Package","declaredName":"%s"}}' % (element(number), name)
+
+
+def commit(changes):
+    return post(('{"change":[%s]}' % ",".join(changes)).encode(), COMMITS)
+
+
+# a project and its first commit, #2, which makes a hundred elements
+ELEMENTS = [PROJECT, commit(change(it, "A") for it in range(100))]
+
+
+def payloads(count):
+    """One commit of this many payloads without identities."""
+    return [commit('{"payload":{"@type":"Part","n":%d}}' % it for it in range(count))]
+
+
+def reads(count):
+    return [get(element_at(made_id(0), made_id(2), element(it))) for it in range(count)]
 
 
 class Stream:
-    """Requests of one kind, and the status that each response but the first has."""
+    """Requests of one kind behind the first ones, whose responses have the status 201, as many as a part of those asked for."""
 
-    def __init__(self, name, first, request, status):
-        self.name = name
-        self.first = first
-        self.request = request
-        self.status = status
+    def __init__(self, name, first, make, status, part=1):
+        self.name, self.first = name, first
+        self.make, self.status, self.part = make, status, part
 
-    def write(self, count, to):
-        to.write(self.first + self.request * count)
-        to.flush()
+    def requests(self, asked):
+        """The requests behind the first ones, and their name."""
+        size = max(1, asked // self.part)
+        return self.make(size), self.name.replace("N ", f"{size:,} ")
 
     def check(self, count, output):
         """The program has answered each request, and as it should."""
         output.seek(0)
-        found = output.read().count(b"HTTP/1.1 %d " % self.status)
-        if found != count:
-            sys.exit(f"{self.name}: {found} of {count} responses have status {self.status}, so the times say nothing")
+        told = output.read()
+        wanted = count + (len(self.first) if self.status == 201 else 0)
+        found = told.count(b"HTTP/1.1 %d " % self.status)
+        if found != wanted:
+            sys.exit(f"{self.name}: {found} of {wanted} responses have status {self.status}, so the times say nothing")
 
 
-STREAMS = [Stream("projects", b"", POST, 201), Stream("reads of one project", POST, GET, 200)]
+STREAMS = [
+    Stream("projects", [], lambda size: [PROJECT] * size, 201),
+    Stream("reads of one project", [PROJECT], lambda size: [get(f"/projects/{made_id(0)}")] * size, 200),
+    Stream("reads of one element", ELEMENTS, reads, 200),
+    Stream("commits of one change", ELEMENTS, lambda size: [commit([change(it, f"B{it}")]) for it in range(size)], 201, 10),
+    Stream("one commit of N small payloads", [PROJECT], payloads, 201, 2),
+]
 
 
 class Lane:
@@ -100,20 +137,23 @@ def peak_memory(words, source, size):
     return int(told[0][1]) * 1024
 
 
-def rows(stream, counts, words, yardstick, rounds, start):
-    """The table's rows for one kind of stream, of each of these lengths."""
-    sources = [tempfile.TemporaryFile() for _ in counts]
-    for count, source in zip(counts, sources):
-        stream.write(count, source)
+def rows(stream, asked, words, yardstick, rounds, start):
+    """The table's rows for one kind of stream, for each of these numbers of requests."""
+    made = [stream.requests(it) for it in asked]
+    sources = [tempfile.TemporaryFile() for _ in made]
+    for (requests, _), source in zip(made, sources):
+        source.write(b"".join(stream.first + requests))
+        source.flush()
     lanes, others = [Lane(words, it) for it in sources], [Yardstick(yardstick, it) for it in sources]
     take_turns(lanes + others, rounds)
     half = None
-    for count, lane, other in zip(counts, lanes, others):
+    for (requests, name), lane, other in zip(made, lanes, others):
+        count = len(requests)
         stream.check(count, lane.output)
         memory = peak_memory(words, lane.source, os.fstat(lane.output.fileno()).st_size)
         processor = lane.processor - start.processor
         yield (
-            f"| {stream.name} | {count:,} | {count / (lane.wall - start.wall):,.0f} | {processor / count * 1e6:.2f} "
+            f"| {name} | {count:,} | {count / (lane.wall - start.wall):,.0f} | {processor / count * 1e6:,.2f} "
             f"| {processor / other.processor:.2f} | {f'{processor / half:.2f}' if half else ''} | {memory / 2**20:.1f} |"
         )
         half = processor
@@ -135,9 +175,7 @@ def main():
     asked.add_argument("--rounds", type=int, default=7, metavar="N", help="runs of which the fastest counts (7)")
     asked.add_argument("program", nargs="?", default=PROGRAM, metavar="PROGRAM")
     asked = asked.parse_args()
-    if not os.access(asked.program, os.X_OK):
-        sys.exit(f"no program at {asked.program}: ./sysapi - once </dev/null builds it")
-    words = [os.path.abspath(asked.program), "-", "once"]
+    words = [program_at(asked.program), "-", "once"]
     yardstick = [sys.executable, os.path.join(HERE, "yardstick.py")]
     name = subprocess.run([*yardstick, "--name"], stdout=subprocess.PIPE, text=True, check=True).stdout.strip()
     start = Lane(words, tempfile.TemporaryFile())

@@ -14,12 +14,28 @@ try:
 except ImportError:
     import json as reader
 
-BODY = (
-    b'{"@id":"00000000-0001-8000-8000-000000000000","@type":"Project","created":"2000-01-01T00:00:00.000Z",'
-    b'"defaultBranch":{"@id":"00000000-0001-8000-8000-000000000001"},"description":null,"name":"P"}'
+
+def answer(status, body):
+    head = "Date: Sat, 01 Jan 2000 00:00:00 GMT\r\nContent-Type: application/json\r\nContent-Length: "
+    return f"HTTP/1.1 {status}\r\n{head}{len(body)}\r\n\r\n{body}".encode()
+
+
+PROJECT = (
+    '{"@id":"00000000-0001-8000-8000-000000000000","@type":"Project","created":"2000-01-01T00:00:00.000Z",'
+    '"defaultBranch":{"@id":"00000000-0001-8000-8000-000000000001"},"description":null,"name":"P"}'
 )
-HEAD = b"Date: Sat, 01 Jan 2000 00:00:00 GMT\r\nContent-Type: application/json\r\nContent-Length: 194\r\n\r\n"
-ANSWERS = {b"POST": b"HTTP/1.1 201 Created\r\n" + HEAD + BODY, b"GET": b"HTTP/1.1 200 OK\r\n" + HEAD + BODY}
+COMMIT = (
+    '{"@id":"00000000-0001-8000-8000-000000000002","@type":"Commit","created":"2000-01-01T00:00:00.000Z","description":null,'
+    '"owningProject":{"@id":"00000000-0001-8000-8000-000000000000"},"previousCommit":null}'
+)
+ELEMENT = '{"@id":"11111111-1111-4111-8111-000000000000","@type":"Package","declaredName":"A"}'
+# by the method and the slashes of the path
+ANSWERS = {
+    (b"POST", 1): answer("201 Created", PROJECT),
+    (b"GET", 2): answer("200 OK", PROJECT),
+    (b"POST", 3): answer("201 Created", COMMIT),
+    (b"GET", 6): answer("200 OK", ELEMENT),
+}
 
 PIECE = 65536
 
@@ -30,7 +46,7 @@ def take(stream, at):
     if end < 0:
         return None
     first, *lines = stream[at:end].split(b"\r\n")
-    method, _target, _version = first.split(b" ")
+    method, target, _version = first.split(b" ")
     fields = dict(line.split(b": ", 1) for line in lines)
     start = end + 4
     behind = start + int(fields.get(b"Content-Length", 0))
@@ -38,7 +54,7 @@ def take(stream, at):
         return None
     if behind > start:
         reader.loads(stream[start:behind])
-    os.write(1, ANSWERS[method])
+    os.write(1, ANSWERS[method, target.count(b"/")])
     return behind
 
 

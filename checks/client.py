@@ -18,13 +18,15 @@ import tempfile
 import threading
 import time
 
-from common import REFUSED, Wrong, conclude, program_named, project_id
+from common import REFUSED, Wrong, commits_of, conclude, element_at, made_id, program_named
+from documents import written
 
 HOST = "127.0.0.1"
 # seconds that any one step of a client may take: a session ends with the first that takes longer
 PATIENCE = 4
 
-PROJECT = "/projects/" + project_id(0)
+PROJECT = "/projects/" + made_id(0)
+COMMITS = commits_of(made_id(0))
 ERROR = '{"@type":"Error","error":"%s"}'
 
 
@@ -113,21 +115,35 @@ def same(what, found, wanted):
         raise Wrong(f"{what} is {found!r}, and not {wanted!r}")
 
 
-def record(body, name):
-    """The body is the first project's record, with this name; returns it as it stands."""
+def record(body, **wanted):
+    """The body is a record of these values, made at some moment; returns it as it stands."""
     created = json.loads(body)["created"]
     if not re.fullmatch(r"\d{4}-\d\d-\d\dT\d\d:\d\d:\d\d\.\d{3}Z", created):
         raise Wrong(f"created is {created!r}")
-    wanted = {
-        "@id": project_id(0),
-        "@type": "Project",
-        "created": created,
-        "defaultBranch": {"@id": project_id(1)},
-        "description": None,
-        "name": name,
-    }
-    same("the record", body.decode("utf-8"), json.dumps(wanted, ensure_ascii=False, separators=(",", ":")))
+    same("the record", body.decode("utf-8"), written({"created": created, "description": None, **wanted}))
     return body
+
+
+def project_record(body, name):
+    """The body is the first project's record."""
+    return record(body, **{"@id": made_id(0), "@type": "Project"}, defaultBranch={"@id": made_id(1)}, name=name)
+
+
+def commit_record(body, serial, previous):
+    """The body is the record of a commit of the first project, by the serials of its id and of the one before it."""
+    previous = previous and {"@id": made_id(previous)}
+    names = {"@id": made_id(serial), "@type": "Commit"}
+    return record(body, **names, owningProject={"@id": made_id(0)}, previousCommit=previous)
+
+
+def change_text(payload, identity=None):
+    """The body of a commit of one change."""
+    return written({"change": [{"identity": identity and {"@id": identity}, "payload": payload}]}).encode("utf-8")
+
+
+def element_path(commit, identity):
+    """The path of an element of the first project, by the serials of the commit and of the identity."""
+    return element_at(made_id(0), made_id(commit), made_id(identity))
 
 
 class Peer:
@@ -184,9 +200,9 @@ def session_of_http_client(bridge):
     peer = Peer(bridge.port)
     status, made = peer.ask("POST", "/projects", '{"name":"P"}', {"Content-Type": "application/json"})
     same("the status", status, 201)
-    record(made, "P")
+    project_record(made, "P")
     same("the project", peer.ask("GET", PROJECT), (200, made))
-    same("another project", peer.ask("GET", "/projects/" + project_id(7)), (404, (ERROR % "unknown-project").encode()))
+    same("another project", peer.ask("GET", "/projects/" + made_id(7)), (404, (ERROR % "unknown-project").encode()))
     same("a wrong body", peer.ask("POST", "/projects", '{"name":'), (400, (ERROR % "bad-json").encode()))
     same("HEAD", peer.ask("HEAD", "/projects"), (404, b""))
     same("the length that HEAD tells", peer.length, len(ERROR % "no-route"))
@@ -203,6 +219,33 @@ def session_of_http_client(bridge):
     bridge.check_end(0, 6, REFUSED)
 
 
+def commits_of_http_client(bridge):
+    """A session that commits, and reads back what each commit holds, also after the element was replaced and deleted."""
+    peer, json_type = Peer(bridge.port), {"Content-Type": "application/json"}
+    project_record(peer.ask("POST", "/projects", '{"name":"P"}', json_type)[1], "P")
+    old = {"@type": "Package", "declaredName": "A \u00e9\U0001f600\n", "n": [2**64 - 1, -(2**63), None]}
+    new = {"@type": "Package", "declaredName": "B", "text": "slowly " * 1000}
+    shown = [written({**it, "@id": made_id(4)}).encode("utf-8") for it in (old, new)]
+    status, made = peer.ask("POST", COMMITS, change_text(old), json_type)
+    same("the status of a commit", (status, commit_record(made, 2, None)), (201, made))
+    same("the element", peer.ask("GET", element_path(2, 4)), (200, shown[0]))
+    status, made = peer.send_slowly(COMMITS, change_text(new, made_id(4)))
+    same("the status of a slow commit", (status, commit_record(made, 5, 2)), (201, made))
+    same("the element as it was", peer.ask("GET", element_path(2, 4)), (200, shown[0]))
+    same("the element as it is", peer.ask("GET", element_path(5, 4)), (200, shown[1]))
+    late = written({"previousCommit": {"@id": made_id(2)}})
+    moved = written({"@type": "Error", "error": "head-moved", "head": {"@id": made_id(5)}}).encode()
+    same("a commit on an old head", peer.ask("POST", COMMITS, late, json_type), (409, moved))
+    status, made = peer.ask("POST", COMMITS, change_text(None, made_id(4)), json_type)
+    same("the status of a delete", (status, commit_record(made, 7, 5)), (201, made))
+    same("the element that was deleted", peer.ask("GET", element_path(7, 4)), (404, (ERROR % "unknown-element").encode()))
+    same("a delete again", peer.ask("POST", COMMITS, change_text(None, made_id(4)))[0], 409)
+    same("the element before it was deleted", peer.ask("GET", element_path(5, 4)), (200, shown[1]))
+    same("the element at first", peer.ask("GET", element_path(2, 4)), (200, shown[0]))
+    peer.close()
+    bridge.check_end(0, 0, "")
+
+
 def each_connection_starts_anew(bridge):
     """Another connection has another program, whose repository is empty, and which ends well when the client leaves."""
     peer = Peer(bridge.port)
@@ -211,20 +254,34 @@ def each_connection_starts_anew(bridge):
     bridge.check_end(0, 0, "")
 
 
-def session_of_curl(bridge):
-    """The same by one call of curl, which says how it judged each transfer and whether it had to connect for it."""
+def run_curl(bridge, requests, says):
+    """One call of curl, whose judgement of each transfer and of the connections made for it is told; returns the bodies."""
     url, places = f"http://{HOST}:{bridge.port}", []
     with tempfile.TemporaryDirectory() as folder:
         words = []
-        for number, (more, path) in enumerate(curl_requests()):
+        for number, (path, *more) in enumerate(requests):
             places.append(os.path.join(folder, str(number)))
             words += ["--next"] * bool(number) + ["-sS", "--noproxy", "*", "--max-time", str(PATIENCE), "-o", places[-1]]
             words += ["-w", "%{http_code} %{num_connects}\n", *more, url + path]
         ended = subprocess.run(["curl", "-q", "--fail-early", *words], capture_output=True, timeout=2 * PATIENCE, text=True)
         same("what curl complains of", (ended.returncode, ended.stderr), (0, ""))
-        same("what curl says of its transfers", ended.stdout.split("\n")[:-1], CURL_SAYS)
-        bodies = [read(place) for place in places]
-    made, head = record(bodies[0], "P"), bodies.pop(2)
+        same("what curl says of its transfers", ended.stdout.split("\n")[:-1], says)
+        return [read(place) for place in places]
+
+
+def session_of_curl(bridge):
+    """The first session by one call of curl: it stays on one connection until it is refused."""
+    requests = [
+        ("/projects", *posted('{"name":"P"}')),
+        (PROJECT,),
+        ("/projects", "--head"),
+        ("/projects", *posted("{")),
+        (PROJECT,),
+        ("/projects", "-H", "Transfer-Encoding: chunked", "--data-binary", "{}"),
+        (PROJECT,),
+    ]
+    bodies = run_curl(bridge, requests, ["201 1", "200 0", "404 0", "400 0", "200 0", "501 0", "404 1"])
+    made, head = project_record(bodies[0], "P"), bodies.pop(2)
     same("the last line of what HEAD gets", head.split(b"\r\n")[-3:], [b"Content-Length: 36", b"", b""])
     errors = [(ERROR % text).encode() for text in ("bad-json", "unknown-coding", "unknown-project")]
     same("what curl got", bodies[1:], [made, errors[0], made, errors[1], errors[2]])
@@ -232,22 +289,36 @@ def session_of_curl(bridge):
     bridge.check_end(1, 0, "")
 
 
-# the status, and the connections made for it: the session stays on one connection until it is refused
-CURL_SAYS = ["201 1", "200 0", "404 0", "400 0", "200 0", "501 0", "404 1"]
-
-
-def curl_requests():
-    """What curl is told for each request beside the URL, and the path."""
-    json_type = ["-H", "Content-Type: application/json"]
-    return [
-        ([*json_type, "--data-binary", '{"name":"P"}'], "/projects"),
-        ([], PROJECT),
-        (["--head"], "/projects"),
-        ([*json_type, "--data-binary", "{"], "/projects"),
-        ([], PROJECT),
-        (["-H", "Transfer-Encoding: chunked", "--data-binary", "{}"], "/projects"),
-        ([], PROJECT),
+def commits_of_curl(bridge):
+    """Commits and reads by one call of curl, all on one connection."""
+    payloads = [{"@type": "Package", "declaredName": name} for name in ("A", "B \u00e9")]
+    requests = [
+        ("/projects", *posted("{}")),
+        (COMMITS, *posted(change_text(payloads[0]).decode("utf-8"))),
+        (element_path(2, 4),),
+        (COMMITS, *posted(change_text(payloads[1], made_id(4)).decode("utf-8"))),
+        (element_path(2, 4),),
+        (element_path(5, 4) + "?excludeUsed=true",),
+        (COMMITS, *posted('{"change":1}')),
+        (COMMITS, *posted(change_text(None, made_id(4)).decode("utf-8"))),
+        (element_path(7, 4),),
+        (element_path(5, 4),),
     ]
+    says = ["201 1", "201 0", "200 0", "201 0", "200 0", "200 0", "400 0", "201 0", "404 0", "200 0"]
+    bodies = run_curl(bridge, requests, says)
+    project_record(bodies[0], None)
+    for place, serial, before in ((1, 2, None), (3, 5, 2), (7, 7, 5)):
+        commit_record(bodies[place], serial, before)
+    shown = [written({**it, "@id": made_id(4)}).encode("utf-8") for it in payloads]
+    wrong = b'{"@type":"Error","error":"bad-body","key":"change"}'
+    same("what curl read", bodies[2:3] + bodies[4:7], [shown[0], shown[0], shown[1], wrong])
+    same("what curl read at last", bodies[8:], [(ERROR % "unknown-element").encode(), shown[1]])
+    bridge.check_end(0, 0, "")
+
+
+def posted(body):
+    """What curl is told of a request with this body."""
+    return ["-H", "Content-Type: application/json", "--data-binary", body]
 
 
 def read(place):
@@ -260,11 +331,11 @@ def read(place):
 
 def main():
     program, started = program_named(), time.monotonic()
-    sessions = [session_of_http_client, each_connection_starts_anew]
+    sessions = [session_of_http_client, commits_of_http_client, each_connection_starts_anew]
     if shutil.which("curl"):
-        sessions.append(session_of_curl)
+        sessions += [session_of_curl, commits_of_curl]
     else:
-        print("client: the session by curl is skipped: there is no curl on PATH")
+        print("client: the sessions by curl are skipped: there is no curl on PATH")
     count, failures = 0, []
     for session in sessions:
         for piece in (65536, 1):

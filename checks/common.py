@@ -1,6 +1,6 @@
 """What the outside checks share: runs of the built program, and the judgement of what it wrote.
 
-An expected response is its bytes with DATE where the moment of its Date stands and CREATED where a project's `created`
+An expected response is its bytes with DATE where the moment of its Date stands and CREATED where a record's `created`
 stands. Both are as long as what they stand for, so each other byte is compared at its own place.
 """
 
@@ -23,6 +23,10 @@ PATIENCE = 20
 # when a check gives up, on the clock that only goes forward: each ends by itself within a minute of its start
 DEADLINE = time.monotonic() + 55
 
+# the program that a build leaves in this repository
+TOP = os.path.dirname(os.path.dirname(os.path.abspath(__file__)))
+PROGRAM = os.path.join(TOP, "crates", "sysapi", "out", "sysapi")
+
 REFUSED = "sysapi: request refused\n"
 CUT_SHORT = "sysapi: input cut short\n"
 
@@ -34,22 +38,34 @@ class Wrong(Exception):
 class Run:
     """One run of the program: what it wrote, its status, and the clock in milliseconds before and after it."""
 
-    def __init__(self, output, complaint, status, taken, before, after):
-        self.output = output
-        self.complaint = complaint
-        self.status = status
-        self.taken = taken
-        self.before = before
-        self.after = after
+    def __init__(self, words, patience=PATIENCE, **files):
+        self.before = milliseconds()
+        try:
+            ended = subprocess.run(words, stderr=subprocess.PIPE, timeout=patience, **files)
+        except subprocess.TimeoutExpired:
+            raise Wrong(f"it had not ended after {patience:.0f} seconds") from None
+        self.after = milliseconds()
+        self.output = ended.stdout
+        self.complaint = ended.stderr.decode("utf-8", "replace")
+        self.status = ended.returncode
+
+
+def program_at(path):
+    """The program at this path, where there is one."""
+    if not os.access(path, os.X_OK):
+        sys.exit(f"no program at {path}: ./sysapi - once </dev/null builds it")
+    return os.path.abspath(path)
 
 
 def program_named():
     """The program that the command line names, else the one that a build leaves in this repository."""
-    top = os.path.dirname(os.path.dirname(os.path.abspath(__file__)))
-    path = sys.argv[1] if len(sys.argv) > 1 else os.path.join(top, "crates", "sysapi", "out", "sysapi")
-    if not os.access(path, os.X_OK):
-        sys.exit(f"no program at {path}: ./sysapi - once </dev/null builds it")
-    return os.path.abspath(path)
+    return program_at(sys.argv[1] if len(sys.argv) > 1 else PROGRAM)
+
+
+def example(name):
+    """A stream of the folder examples/."""
+    with open(os.path.join(TOP, "examples", name), "rb") as it:
+        return it.read()
 
 
 def milliseconds():
@@ -66,19 +82,9 @@ def run(program, words, stream):
         patience = min(PATIENCE, DEADLINE - time.monotonic())
         if patience <= 0:
             raise Wrong("not tried, as the time of this check was over")
-        before = milliseconds()
-        try:
-            ended = subprocess.run([program, *words], stdin=source, capture_output=True, timeout=patience)
-        except subprocess.TimeoutExpired:
-            raise Wrong(f"it had not ended after {patience:.0f} seconds") from None
-        return Run(
-            ended.stdout,
-            ended.stderr.decode("utf-8", "replace"),
-            ended.returncode,
-            os.lseek(source.fileno(), 0, os.SEEK_CUR),
-            before,
-            milliseconds(),
-        )
+        ran = Run([program, *words], patience, stdin=source, stdout=subprocess.PIPE)
+        ran.taken = os.lseek(source.fileno(), 0, os.SEEK_CUR)
+        return ran
 
 
 def check_end(ran, status, complaint):
@@ -128,7 +134,7 @@ def compared(wanted, wrote):
 
 
 def check_created(wrote, date, moment, ran, created):
-    """A project is made at the moment of its request's Date, and shown with that moment ever after."""
+    """A record is made at the moment of its request's Date, and shown with that moment ever after."""
     head, _, body = wrote.partition(b"\r\n\r\n")
     made = json.loads(body)["@id"]
     if head.startswith(b"HTTP/1.1 201 "):
@@ -139,7 +145,7 @@ def check_created(wrote, date, moment, ran, created):
             raise Wrong(f"created {moment} and Date {date} are not one moment")
         created[made] = moment
     elif created.get(made) != moment:
-        raise Wrong(f"created {moment} is not the moment of the project's first response, {created.get(made)}")
+        raise Wrong(f"created {moment} is not the moment of the record's first response, {created.get(made)}")
 
 
 def second_of_date(text):
@@ -177,9 +183,30 @@ def response(status, length, body, *more):
     return "\r\n".join(lines)
 
 
-def project_id(number):
-    """The id with this serial in repository 1."""
-    return f"00000000-0001-8000-8000-{number:012x}"
+def made_id(serial):
+    """The id that repository 1 makes of this serial."""
+    return f"00000000-0001-8000-8000-{serial:012x}"
+
+
+def get(path):
+    """GET of this path."""
+    return f"GET {path} HTTP/1.1\r\nHost: h\r\n\r\n".encode()
+
+
+def post(body, path="/projects", length=None, head=b""):
+    """POST of these bytes, of a project where no other path is told, with a Content-Length, and further head lines."""
+    told = str(len(body) if length is None else length).encode()
+    return b"POST %s HTTP/1.1\r\nHost: h\r\n%sContent-Length: %s\r\n\r\n%s" % (path.encode(), head, told, body)
+
+
+def commits_of(project):
+    """The path of a project's commits."""
+    return f"/projects/{project}/commits"
+
+
+def element_at(project, commit, identity):
+    """The path of an element at a commit."""
+    return f"{commits_of(project)}/{commit}/elements/{identity}"
 
 
 def conclude(name, count, started, failures):

@@ -6,6 +6,7 @@ Usage: hostile.py [PROGRAM]
 """
 
 import concurrent.futures
+import functools
 import itertools
 import json
 import os
@@ -13,27 +14,40 @@ import random
 import time
 
 import model
-from common import Wrong, check_end, check_responses, conclude, program_named, project_id, run
+from common import (
+    Wrong,
+    check_end,
+    check_responses,
+    commits_of,
+    conclude,
+    element_at,
+    get,
+    made_id,
+    post,
+    program_named,
+    run,
+)
 
 SEED = 20_000_101
 
-POST_P = b'POST /projects HTTP/1.1\r\nHost: h\r\nContent-Length: 12\r\n\r\n{"name":"P"}'
-GET_0 = f"GET /projects/{project_id(0)} HTTP/1.1\r\nHost: h\r\n\r\n".encode()
+COMMITS = commits_of(made_id(0))
+
+POST_P = post(b'{"name":"P"}')
+GET_0 = get(f"/projects/{made_id(0)}")
+MAKES = post(b'{"change":[{"payload":{"n":1}}],"previousCommit":null}', COMMITS)
+REPLACES = post(b'{"change":[{"payload":{"@id":"%s","n":2}}]}' % made_id(4).encode(), COMMITS)
+ELEMENT = get(element_at(made_id(0), made_id(2), made_id(4)))
 HEAD = b"HEAD /projects HTTP/1.1\r\nHost: h\r\n\r\n"
 NO_ROUTE = b"PUT /projects?x HTTP/1.1\nhost:h\nConnection: Keep-Alive\ncontent-length: 4\n\nbody"
 ABSOLUTE = b"GET http://h/projects HTTP/1.1\r\nHost: h\r\n\r\n"
 BAD_BODY = b"POST /projects?a=b?c HTTP/1.1\r\nHost: h\r\nAccept: */*\r\nContent-Length: 1\r\n\r\n{"
 CHUNKED = b"POST /projects HTTP/1.1\r\nHost: h\r\nTransfer-Encoding: chunked\r\n\r\n2\r\n{}\r\n0\r\n\r\n"
 OLD = b"GET /projects HTTP/1.0\r\nHost: h\r\n\r\n"
-REQUESTS = [POST_P, POST_P, GET_0, HEAD, NO_ROUTE, ABSOLUTE, BAD_BODY, CHUNKED, OLD]
-GOOD = POST_P + GET_0 + HEAD + NO_ROUTE + ABSOLUTE + BAD_BODY + POST_P + GET_0
+REQUESTS = [POST_P, POST_P, GET_0, HEAD, NO_ROUTE, ABSOLUTE, BAD_BODY, CHUNKED, OLD, MAKES, REPLACES, ELEMENT]
+GOOD = POST_P + GET_0 + HEAD + NO_ROUTE + ABSOLUTE + MAKES + BAD_BODY + REPLACES + ELEMENT
 
 # bytes that mean something in a head or in a document, and a few that never do
 TELLING = b"\r\n\r\n  \t:/?#{}[]\",\\0159-+.eEpPHh\x00\x7f\x80\xc3\xff"
-
-
-def post(body):
-    return b"POST /projects HTTP/1.1\r\nHost: h\r\nContent-Length: %d\r\n\r\n" % len(body) + body
 
 
 def early_bytes():
@@ -45,11 +59,19 @@ def early_bytes():
 
 
 def late_bytes():
-    """Every byte value in every place of a body, where the session goes on after each."""
+    """Other bytes in every place of a body, where the session goes on after each."""
     body = b'{"name":"P"}'
     for place in range(len(body)):
-        mutants = [body[:place] + bytes([value]) + body[place + 1 :] for value in range(256)]
-        yield f"each byte at {place} of the body", b"".join(map(post, mutants)) + GET_0
+        yield f"each byte at {place} of a project", b"".join(map(post, each_byte(body, place, range(256)))) + GET_0
+    body = b'{"change":[{"identity":{"@id":"%s"},"payload":{}}]}' % made_id(4).encode()
+    for place in range(len(body)):
+        several = [post(it, COMMITS) for it in each_byte(body, place, TELLING)]
+        yield f"each telling byte at {place} of a commit", POST_P + b"".join(several) + ELEMENT
+
+
+def each_byte(body, place, values):
+    """A body with each of these bytes in one place."""
+    return [body[:place] + bytes([value]) + body[place + 1 :] for value in values]
 
 
 def cuts():
@@ -70,8 +92,8 @@ def doubled():
 
 def mutated(draws):
     """Requests with a few bytes changed, dropped, added, moved or repeated."""
-    for number in range(3000):
-        stream = bytearray(b"".join(draws.choices(REQUESTS, k=draws.randint(1, 6))))
+    for number in range(2000):
+        stream = bytearray(POST_P * draws.randrange(2) + b"".join(draws.choices(REQUESTS, k=draws.randint(1, 6))))
         for _ in range(draws.randint(1, 4)):
             mutate(draws, stream)
         yield f"mutant {number}", bytes(stream)
@@ -185,9 +207,152 @@ def drawn_text(draws):
     return "".join(draws.choices(letters, k=draws.randrange(12))) + surrogate
 
 
+def plain_text(draws):
+    """Such a text without half a letter."""
+    return drawn_text(draws).replace("\ud800", "")
+
+
+class Session:
+    """Requests of one repository, drawn so that many of them fit what the earlier ones made."""
+
+    # identities that commits give; most are ids that the repository makes too
+    IDENTITIES = [*map(made_id, (4, 6, 7, 9, 11, 15)), *("aaaaaaaa-0000-4000-8000-%012d" % it for it in (1, 2))]
+
+    def __init__(self, draws):
+        self.draws = draws
+        self.repository = model.Repository()
+        self.stream = b""
+
+    def add(self, request):
+        """Takes one more request, whose answer steers what is drawn next."""
+        self.stream += request
+        self.repository.answer(model.front(request, 0)[0])
+
+    def draw_request(self):
+        kind = self.draws.randrange(20)
+        projects = list(self.repository.projects) or [made_id(0)]
+        project = self.draws.choice(projects[:1] * 4 + projects) if kind else self.drawn_id()
+        if kind == 1:
+            self.add(post(b'{"name":"Q"}'))
+        elif kind == 2:
+            self.add(get(f"/projects/{project}"))
+        elif kind < 12:
+            body = json.dumps(self.commit_body(project), ensure_ascii=False).encode()
+            self.add(post(body, self.spelled(commits_of(project)) + self.draws.choice(("", "", "?branchId=x"))))
+        else:
+            self.add(get(self.spelled(element_at(project, self.some_commit(project), self.some_identity(project)))))
+
+    def spelled(self, path):
+        """A path, at times with its ids in upper case, or with one byte less."""
+        kind = self.draws.randrange(30)
+        if kind == 0:
+            return path[:-1]
+        return path.replace("a", "A").replace("b", "B").replace("f", "F") if kind == 1 else path
+
+    def known(self, project):
+        return self.repository.projects.get(project, model.Project({}))
+
+    def drawn_id(self):
+        return made_id(self.draws.randrange(self.repository.serial + 4))
+
+    def some_commit(self, project):
+        commits = list(self.known(project).commits)
+        return self.draws.choice(commits) if commits and self.draws.random() < 0.95 else self.drawn_id()
+
+    def some_identity(self, project):
+        identities = sorted(self.known(project).identities)
+        return self.draws.choice(identities) if identities and self.draws.random() < 0.9 else self.drawn_id()
+
+    def commit_body(self, project):
+        """A body that asks for a commit, now and then of a wrong shape."""
+        body = {"change": [self.change(project) for _ in range(self.draws.choice((0, 1, 1, 1, 2, 2, 3, 6)))]}
+        if self.draws.random() < 0.5:
+            body["previousCommit"] = self.previous(project)
+        if self.draws.random() < 0.2:
+            body["description"] = plain_text(self.draws)
+        if self.draws.random() < 0.1:
+            body[self.draws.choice(("change", "description", "previousCommit", "x"))] = self.wrong()
+        return body
+
+    def wrong(self):
+        """A value that is wrong in most places."""
+        return self.draws.choice((7, "", [], {}, False, None, [None], [{}], {"@id": "x"}, 1.5))
+
+    def previous(self, project):
+        """The branch's head, mostly."""
+        head, other = self.known(project).head, {"@id": self.some_commit(project)}
+        right = head and {"@id": head}
+        return self.draws.choice((right, right, right, [right] if right else [], [], other, [right or other, other]))
+
+    def change(self, project):
+        """A change, often of an identity that is there already."""
+        draws, body = self.draws, {}
+        identity = draws.choice((draws.choice(self.IDENTITIES), self.some_identity(project)))
+        identity = identity.upper() if draws.random() < 0.1 else identity
+        if draws.random() < 0.6:
+            body["identity"] = {"@id": identity}
+        if draws.random() < 0.75:
+            body["payload"] = self.payload(identity if draws.random() < 0.97 else self.drawn_id())
+        elif draws.random() < 0.5:
+            body["payload"] = None
+        if draws.random() < 0.02:
+            body[draws.choice(("identity", "payload"))] = self.wrong()
+        return body
+
+    def payload(self, identity):
+        draws = self.draws
+        payload = {"n": draws.randrange(1000), plain_text(draws): plain_text(draws)}
+        if draws.random() < 0.5:
+            payload["@id"] = identity if draws.random() < 0.98 else self.wrong()
+        if draws.random() < 0.5:
+            payload["@type"] = draws.choices(TYPES, (9, 3, 3, 1, 1, 1))[0]
+        return payload
+
+
+# the types of payloads that are drawn: an element's, and those that are no elements or no types
+TYPES = ("Part", "ExternalData", "ExternalRelationship", "ProjectUsage", ["ProjectUsage"], None)
+
+
+def commits():
+    """Sessions of commits and reads. Each is drawn by the worker that checks it, from a seed of its own."""
+    for number in range(600):
+        yield f"commits {number}", functools.partial(drawn_session, number)
+
+
+def drawn_session(number):
+    """A session that is left whole, or is cut, or has a few bytes changed."""
+    draws = random.Random(SEED + number)
+    session = Session(draws)
+    session.add(POST_P)
+    for _ in range(draws.randint(3, 40)):
+        session.draw_request()
+    stream = bytearray(session.stream)
+    if number % 4 == 2:
+        del stream[draws.randrange(len(stream)) :]
+    elif number % 4 == 3:
+        mutate(draws, stream)
+    return bytes(stream)
+
+
+def long_commits():
+    """A commit of many changes, many commits of one, and a read at each of them."""
+    n = 500
+    several = b",".join(b'{"payload":{"n":%d}}' % it for it in range(n))
+    reads = [get(element_at(made_id(0), made_id(2), made_id(3 + it))) for it in range(2 * n + 2)]
+    yield f"a commit of {n} changes", POST_P + post(b'{"change":[%s]}' % several, COMMITS) + b"".join(reads)
+    again = b'{"change":[{"payload":{"@id":"%s","n":%%d}}]}' % made_id(4).encode()
+    stream = POST_P + b"".join(post(again % it, COMMITS) for it in range(n))
+    reads = [get(element_at(made_id(0), made_id(2 + it), made_id(4))) for it in range(2 * n + 2)]
+    yield f"{n} commits of one element", stream + b"".join(reads)
+    passed = b",".join(b'{"identity":{"@id":"%s"},"payload":{}}' % made_id(it).encode() for it in range(3, n))
+    late = get(element_at(made_id(0), made_id(2), made_id(n)))
+    yield f"an identity behind {n} others", POST_P + post(b'{"change":[{"payload":{}},%s]}' % passed, COMMITS) + late
+
+
 def streams():
+    """The name of each stream, and the stream or what draws it."""
     draws = random.Random(SEED)
-    for group in (early_bytes, late_bytes, cuts, doubled, long_heads, lengths):
+    for group in (early_bytes, late_bytes, cuts, doubled, long_heads, lengths, long_commits, commits):
         yield from group()
     for group in (mutated, noise, documents):
         yield from group(draws)
@@ -195,6 +360,7 @@ def streams():
 
 def check(program, name, stream):
     """Returns what is wrong with the program's run on this stream, if anything is."""
+    stream = stream() if callable(stream) else stream
     try:
         ran = run(program, ("-", "once"), stream)
         responses, status, complaint = model.session(stream)

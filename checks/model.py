@@ -1,20 +1,17 @@
 """What the program answers to a stream of bytes, said once more in plain Python, for streams that nobody wrote down.
 
-It judges the whole stream at once, by regular expressions and Python's own reader of JSON, where the program reads pieces.
+It judges the whole stream at once, by regular expressions, where the program reads pieces. Bodies are read by documents.py.
 It has no clock: its responses have common.py's marks where moments stand.
 """
 
-import json
 import re
 
-from common import CREATED, CUT_SHORT, REFUSED, project_id, response
+from common import CREATED, CUT_SHORT, REFUSED, made_id, response
+from documents import BAD_REQUEST, ID, Refusal, commit_asked, project_asked, written
 
 HEAD_MOST = 16_384
 FIELDS_MOST = 64
 BODY_MOST = 67_108_864
-DEPTH_MOST = 100
-# deeper texts are no JSON to the program's reader
-NESTING_MOST = 127
 
 # RFC 9112, sections 3 and 5, with lines that may end in LF alone, and empty lines before the request line
 BLANK = rb"(?:\r?\n)*"
@@ -25,8 +22,6 @@ HEAD = re.compile(BLANK + LINE + rb"((?:" + FIELD + rb")*)\r?\n")
 # what begins a head: bytes before its first space, and lines that are whole
 BEFORE_SPACE = re.compile(BLANK + rb"(?:\r|(?:" + TOKEN + rb")?)")
 WHOLE_LINES = re.compile(BLANK + rb"(?:" + LINE + rb"(?:" + FIELD + rb")*)?")
-
-ID = re.compile("[0-9A-Fa-f]{8}(-[0-9A-Fa-f]{4}){3}-[0-9A-Fa-f]{12}")
 
 
 class Request:
@@ -99,130 +94,155 @@ def front(stream, at):
     return "unknown-coding" if len(window) == HEAD_MOST else None
 
 
-class NotJson(Exception):
-    """The text is no JSON."""
+def told(status, body, *more):
+    return response(status, len(body.encode("utf-8")), body, *more)
 
 
-class Object(dict):
-    """An object with the last value of each key, and how deep its text is nested, with the values that don't count."""
-
-    def __init__(self, pairs):
-        super().__init__(pairs)
-        self.nesting = 1 + max((nesting(value) for _, value in pairs), default=0)
-        if any(map(has_lone_surrogate, self)) or any(has_lone_surrogate(value) for _, value in pairs):
-            raise NotJson
+def record_told(status, record):
+    """The response with a new record, or one that was looked up, whose `created` is the moment of its request."""
+    return told(status, written({**record, "created": ""}).replace('"created":""', f'"created":"{CREATED}"', 1))
 
 
-class NotWhole:
-    """A number that isn't a whole number in range."""
+class Commit:
+    """A commit: the one before it, and the payload of each identity that it changes, None where it deletes it."""
 
-    def __init__(self, text):
-        if float(text) in (float("inf"), float("-inf")):
-            raise NotJson
+    def __init__(self, previous, changes):
+        self.previous = previous
+        self.changes = changes
 
-
-def whole(text):
-    is_short = len(text) <= 20
-    is_in_range = is_short and text != "-0" and -(2**63) <= int(text) < 2**64
-    return int(text) if is_in_range else NotWhole(text)
-
-
-def refuse(_):
-    raise NotJson
-
-
-def has_lone_surrogate(value):
-    if isinstance(value, list):
-        return any(map(has_lone_surrogate, value))
-    return isinstance(value, str) and any("\ud800" <= it <= "\udfff" for it in value)
-
-
-def nesting(value):
-    if isinstance(value, Object):
-        return value.nesting
-    if isinstance(value, list):
-        return 1 + max(map(nesting, value), default=0)
-    return 0
-
-
-def depth(value):
-    if isinstance(value, (Object, list)):
-        return 1 + max(map(depth, value.values() if isinstance(value, Object) else value), default=0)
-    return 0
-
-
-def is_storable(value):
-    if isinstance(value, (Object, list)):
-        return all(map(is_storable, value.values() if isinstance(value, Object) else value))
-    return not isinstance(value, NotWhole)
-
-
-def document(body):
-    """The object that a body is, or None where it is no document, or none that can be stored."""
-    try:
-        value = json.loads(
-            body.decode("utf-8"), object_pairs_hook=Object, parse_int=whole, parse_float=NotWhole, parse_constant=refuse
-        )
-    except (ValueError, RecursionError, NotJson):
+    def own(self, identity):
+        """The payload of an identity by the last change of it down the ancestry, or None."""
+        it = self
+        while it:
+            if identity in it.changes:
+                return it.changes[identity]
+            it = it.previous
         return None
-    is_read = isinstance(value, Object) and value.nesting <= NESTING_MOST
-    return value if is_read and depth(value) <= DEPTH_MOST and is_storable(value) else None
 
 
-def path_of(target):
-    """The path of a target. One with a scheme and an authority isn't built, and has no route."""
-    return target.split("?", 1)[0]
+class Project:
+    """A project: its record, its commits by id, the id of its branch's head, and all identities of its changes."""
 
+    def __init__(self, record):
+        self.record = record
+        self.commits = {}
+        self.head = None
+        self.identities = set()
 
-def error(status, text, *more):
-    body = f'{{"@type":"Error","error":"{text}"}}'
-    return response(status, len(body), body, *more)
+    def own(self, identity):
+        """The own value of an identity at the branch's head."""
+        return self.commits[self.head].own(identity) if self.head else None
+
+    def judge(self, asked):
+        """Refuses a commit by the first row that holds, a row of the changes at its least place."""
+        if len(asked.previous) > 1:
+            raise Refusal(BAD_REQUEST, "multiple-previous")
+        if asked.previous and asked.previous[0] != self.head:
+            raise Refusal("409 Conflict", "head-moved", head=self.head and {"@id": self.head})
+        identities = [change.identity for change in asked.changes]
+        rows = [
+            (BAD_REQUEST, "identity-mismatch", lambda _, it: it.given and it.own and it.given != it.own),
+            (BAD_REQUEST, "identity-twice", lambda place, it: it.identity and it.identity in identities[:place]),
+            ("409 Conflict", "delete-unknown", lambda _, it: it.payload is None and self.own(it.identity) is None),
+            ("409 Conflict", "unknown-pin", lambda _, it: it.payload and it.payload.get("@type") == "ProjectUsage"),
+        ]
+        for status, text, holds in rows:
+            for place, change in enumerate(asked.changes):
+                if holds(place, change):
+                    raise Refusal(status, text, place=place)
 
 
 class Repository:
-    """The projects of one run."""
+    """The projects of one run, and the next serial."""
 
     def __init__(self):
-        self.projects = []
+        self.projects = {}
+        self.serial = 0
+
+    def draw(self, known=()):
+        """A new id, of the least serial from the next one on whose id isn't known."""
+        while made_id(self.serial) in known:
+            self.serial += 1
+        self.serial += 1
+        return made_id(self.serial - 1)
 
     def answer(self, request):
-        path = path_of(request.target)
-        if (request.method, path) == (b"POST", "/projects"):
-            return self.create(request.body)
-        found = path[len("/projects/") :] if path.startswith("/projects/") else ""
-        if request.method == b"GET" and ID.fullmatch(found):
-            return self.one(found.lower())
-        refusal = error("404 Not Found", "no-route")
-        # (a response to HEAD has no body)
-        return refusal.split("{", 1)[0] if request.method == b"HEAD" else refusal
+        try:
+            return self.accepted(request)
+        except Refusal as why:
+            refused = told(why.status, why.body)
+            # (a response to HEAD has no body)
+            return refused.split("{", 1)[0] if request.method == b"HEAD" else refused
 
-    def create(self, body):
-        found = document(body)
-        texts = [None if found is None else found.get(key) for key in ("name", "description")]
-        if found is None or not all(it is None or isinstance(it, str) for it in texts):
-            return error("400 Bad Request", "bad-json")
-        self.projects.append(texts)
-        return self.shown("201 Created", len(self.projects) - 1)
+    def accepted(self, request):
+        """The response to a request that isn't refused. A target with a scheme has no route."""
+        path = request.target.split("?", 1)[0]
+        for method, form, call in ROUTES:
+            found = form.fullmatch(path)
+            if found and request.method == method:
+                ids = [it.lower() for it in found.groups()]
+                return call(self, request.body, *ids) if method == b"POST" else call(self, *ids)
+        raise Refusal("404 Not Found", "no-route")
 
-    def one(self, asked):
-        for number in range(len(self.projects)):
-            if project_id(2 * number) == asked:
-                return self.shown("200 OK", number)
-        return error("404 Not Found", "unknown-project")
+    def project(self, asked):
+        if asked not in self.projects:
+            raise Refusal("404 Not Found", "unknown-project")
+        return self.projects[asked]
 
-    def shown(self, status, number):
-        name, description = self.projects[number]
-        record = {
-            "@id": project_id(2 * number),
-            "@type": "Project",
-            "created": "",
-            "defaultBranch": {"@id": project_id(2 * number + 1)},
-            "description": description,
-            "name": name,
-        }
-        body = json.dumps(record, ensure_ascii=False, separators=(",", ":"))
-        body = body.replace('"created":""', f'"created":"{CREATED}"', 1)
-        return response(status, len(body.encode("utf-8")), body)
+    def make_project(self, body):
+        name, description = project_asked(body)
+        record = {"@id": self.draw(), "@type": "Project", "defaultBranch": {"@id": self.draw()}}
+        record.update(description=description, name=name)
+        self.projects[record["@id"]] = Project(record)
+        return record_told("201 Created", record)
+
+    def one_project(self, asked):
+        return record_told("200 OK", self.project(asked).record)
+
+    def make_commit(self, body, asked_project):
+        asked = commit_asked(body)
+        project = self.project(asked_project)
+        project.judge(asked)
+        record = {"@id": self.draw(), "@type": "Commit", "description": asked.description}
+        record.update(owningProject={"@id": asked_project}, previousCommit=project.head and {"@id": project.head})
+        changes = self.changes_made(project, asked.changes)
+        project.commits[record["@id"]] = Commit(project.commits.get(project.head), changes)
+        project.head = record["@id"]
+        return record_told("201 Created", record)
+
+    def changes_made(self, project, changes):
+        """The changes as they are stored. Each draws an id for its data version, and one for its identity if it has none."""
+        project.identities.update(change.identity for change in changes if change.identity)
+        made = {}
+        for change in changes:
+            self.draw()
+            identity = change.identity or self.draw(project.identities)
+            project.identities.add(identity)
+            made[identity] = None if change.payload is None else {**change.payload, "@id": identity}
+        return made
+
+    def one_element(self, asked_project, commit, identity):
+        project = self.project(asked_project)
+        if commit not in project.commits:
+            raise Refusal("404 Not Found", "unknown-commit")
+        payload = project.commits[commit].own(identity)
+        if payload is None or payload.get("@type") in NO_ELEMENTS:
+            raise Refusal("404 Not Found", "unknown-element")
+        return told("200 OK", written(payload))
+
+
+# data of these types are no elements
+NO_ELEMENTS = ("ProjectUsage", "ExternalData", "ExternalRelationship")
+
+ROUTES = [
+    (method, re.compile(form.replace("ID", f"({ID})")), call)
+    for method, form, call in (
+        (b"POST", "/projects", Repository.make_project),
+        (b"GET", "/projects/ID", Repository.one_project),
+        (b"POST", "/projects/ID/commits", Repository.make_commit),
+        (b"GET", "/projects/ID/commits/ID/elements/ID", Repository.one_element),
+    )
+]
 
 
 def session(stream):
@@ -233,8 +253,8 @@ def session(stream):
         if found is None:
             return responses, 6, CUT_SHORT
         if isinstance(found, str):
-            status = "400 Bad Request" if found == "bad-head" else "501 Not Implemented"
-            return responses + [error(status, found, "Connection: close")], 6, REFUSED
+            refusal = Refusal(BAD_REQUEST if found == "bad-head" else "501 Not Implemented", found)
+            return responses + [told(refusal.status, refusal.body, "Connection: close")], 6, REFUSED
         request, at = found
         responses.append(repository.answer(request))
     return responses, 0, ""

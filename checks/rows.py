@@ -5,38 +5,40 @@ and common.py judges those. Usage: rows.py [PROGRAM]
 """
 
 import os
-import subprocess
 import time
 
+import commit_rows
 from common import (
     CREATED,
     CUT_SHORT,
-    PATIENCE,
     REFUSED,
+    Run,
     Wrong,
     check_end,
-    check_responses,
     conclude,
+    example,
+    post,
     program_named,
     response,
-    run,
+)
+from forms import (
+    BAD_JSON,
+    FOUND_P,
+    GET_0,
+    MADE_P,
+    NO_ROUTE,
+    NOT_WHOLE,
+    POST_P,
+    TOO_DEEP,
+    UNKNOWN_PROJECT,
+    Row,
+    bad_body,
+    filled,
 )
 
-POST_P = b'POST /projects HTTP/1.1\r\nHost: h\r\nContent-Length: 12\r\n\r\n{"name":"P"}'
-GET_0 = b"GET /projects/00000000-0001-8000-8000-000000000000 HTTP/1.1\r\nHost: h\r\n\r\n"
 GET_1 = b"GET /projects/00000000-0001-8000-8000-000000000001 HTTP/1.1\r\nHost: h\r\n\r\n"
 
-PROJECT_P = (
-    '{"@id":"00000000-0001-8000-8000-000000000000","@type":"Project","created":"' + CREATED + '",'
-    '"defaultBranch":{"@id":"00000000-0001-8000-8000-000000000001"},"description":null,"name":"P"}'
-)
-MADE_P = response("201 Created", 194, PROJECT_P)
-FOUND_P = response("200 OK", 194, PROJECT_P)
-
-UNKNOWN_PROJECT = response("404 Not Found", 43, '{"@type":"Error","error":"unknown-project"}')
-NO_ROUTE = response("404 Not Found", 36, '{"@type":"Error","error":"no-route"}')
 NO_ROUTE_HEAD = response("404 Not Found", 36, "")
-BAD_JSON = response("400 Bad Request", 36, '{"@type":"Error","error":"bad-json"}')
 BAD_HEAD = response("400 Bad Request", 36, '{"@type":"Error","error":"bad-head"}', "Connection: close")
 UNKNOWN_CODING = response("501 Not Implemented", 42, '{"@type":"Error","error":"unknown-coding"}', "Connection: close")
 
@@ -44,44 +46,11 @@ BAD_WORDS = "sysapi: bad words\n"
 CANNOT_OPEN = "sysapi: cannot open\n"
 
 
-class Row:
-    """A run: its name, its words, the bytes that it reads, and what it must write and end with."""
-
-    def __init__(self, name, stream, responses, status=0, complaint="", words=("-", "once"), reads_nothing=False):
-        self.name = name
-        self.words = words
-        self.stream = stream
-        self.responses = responses
-        self.status = status
-        self.complaint = complaint
-        self.reads_nothing = reads_nothing
-
-    def check(self, program):
-        ran = run(program, self.words, self.stream)
-        check_responses(self.responses, ran)
-        check_end(ran, self.status, self.complaint)
-        if self.reads_nothing and ran.taken:
-            raise Wrong(f"{ran.taken} bytes of standard input were read")
-
-
-def post(body, length=None, head=b""):
-    """POST of a project with these bytes as its body, a Content-Length, and further head lines."""
-    told = str(len(body) if length is None else length).encode()
-    return b"POST /projects HTTP/1.1\r\nHost: h\r\n" + head + b"Content-Length: " + told + b"\r\n\r\n" + body
-
-
-def example():
-    """The stream that the README shows."""
-    top = os.path.dirname(os.path.dirname(os.path.abspath(__file__)))
-    with open(os.path.join(top, "examples", "first-project.http"), "rb") as it:
-        return it.read()
-
-
 def served():
     """What is served: projects, one after another, and what is answered where there is none."""
     yield Row("empty input", b"", [])
     yield Row("first project", POST_P + GET_0, [MADE_P, FOUND_P])
-    yield Row("first project, from examples/", example(), [MADE_P, FOUND_P])
+    yield Row("first project, from examples/", example("first-project.http"), [MADE_P, FOUND_P])
     yield Row("first project, without the GET", POST_P, [MADE_P])
     yield Row("a project that isn't there", GET_0, [UNKNOWN_PROJECT])
     yield Row("no such route", b"GET /project HTTP/1.1\r\nHost: h\r\n\r\n", [NO_ROUTE])
@@ -114,6 +83,27 @@ def routes():
         ("GET", "/projects"),
         ("PATCH", "/projects"),
         ("POST", "/projects/00000000-0001-8000-8000-000000000000"),
+        ("GET", "/projects/#0/commits"),
+        ("PUT", "/projects/#0/commits"),
+        ("POST", "/projects/#0/commits/"),
+        ("POST", "/projects/#0/Commits"),
+        ("POST", "/projects/x/commits"),
+        ("POST", "/projects//commits"),
+        ("POST", "/projects/commits"),
+        ("GET", "/projects/#0/commits/#2"),
+        ("GET", "/projects/#0/commits/#2/elements"),
+        ("GET", "/projects/#0/commits/#2/elements/"),
+        ("GET", "/projects/#0/commits/#2/roots/#4"),
+        ("GET", "/projects/#0/commits/#2/elements/#4/"),
+        ("GET", "/projects/#0/commits/#2/elements/#4/owner"),
+        ("GET", "/projects/#0/commits/#2/elements/x"),
+        ("GET", "/projects/#0/commits/x/elements/#4"),
+        ("GET", "/projects/x/commits/#2/elements/#4"),
+        ("GET", "/projects/#0/commits/#2#3/elements/#4"),
+        ("GET", "/projects/#0/commits//elements/#4"),
+        ("GET", "//projects/#0/commits/#2/elements/#4"),
+        ("get", "/projects/#0/commits/#2/elements/#4"),
+        ("POST", "/projects/#0/commits/#2/elements/#4"),
         ("DELETE", "/projects/00000000-0001-8000-8000-000000000000"),
         ("GET", "/projects/x"),
         ("GET", "/projects/00000000-0001-8000-8000-000000000000/"),
@@ -121,7 +111,7 @@ def routes():
         ("get", "/projects/00000000-0001-8000-8000-000000000000"),
         ("OPTIONS", "*"),
     ):
-        stream = f"{method} {path} HTTP/1.1\r\nHost: h\r\n\r\n".encode()
+        stream = f"{method} {filled(path)} HTTP/1.1\r\nHost: h\r\n\r\n".encode()
         yield Row(f"no route: {method} {path}", stream + POST_P, [NO_ROUTE, MADE_P])
     head = b"HEAD /projects HTTP/1.1\r\nHost: h\r\n\r\n"
     yield Row("HEAD has the head alone", head + head + POST_P, [NO_ROUTE_HEAD, NO_ROUTE_HEAD, MADE_P])
@@ -134,20 +124,33 @@ def routes():
 
 def bodies():
     """Bodies that make no project; nothing of them is kept, and the session goes on."""
-    for body in (
-        b"", b"{", b"[]", b"null", b'"name"', b'{"name":"P"}}', b'{"name":P}', b"{'name':'P'}", b'{"name":"P",}',
-        b'{"name":7}', b'{"name":["P"]}', b'{"description":false}', b'{"name":"P","description":{}}',
-        b'{"x":1.5}', b'{"x":-0}', b'{"x":1e2}', b'{"x":18446744073709551616}', b'{"x":-9223372036854775809}',
-        b'{"name":"\xff"}', b'{"name":"\\ud800"}', b'{"name":"\x01"}', b'\xef\xbb\xbf{"name":"P"}',
-        b'{"x":' + b"[" * 100 + b"]" * 100 + b"}", b"[" * 200,
+    lists = lambda deep: b"[" * deep + b"]" * deep
+    for answer, several in (
+        (BAD_JSON, NO_JSON),
+        (TOO_DEEP, (b'{"x":' + lists(100) + b"}", lists(101), lists(127), b'{"x":1.5,"y":' + lists(126) + b"}")),
+        (NOT_WHOLE, (b'{"x":1.5}', b'{"x":-0}', b'{"x":1e2}', b"[0.1]", b"-0", b'{"name":7,"x":[[{"y":1e-1}]]}',
+                     b'{"x":18446744073709551616}', b'{"x":-9223372036854775809}')),
+        (bad_body(""), (b"[]", b"null", b'"name"', b"7", b"false", b'[{"name":"P"}]', lists(100))),
+        (bad_body("name"), (b'{"name":7}', b'{"name":["P"]}', b'{"description":7,"name":false}', b'{"name":"P","name":{}}')),
+        (bad_body("description"), (b'{"description":false}', b'{"name":"P","description":{}}', b'{"description":[]}')),
     ):  # fmt: skip
-        yield Row(f"bad body {body[:24]!r}", post(body) + POST_P + GET_0, [BAD_JSON, MADE_P, FOUND_P])
+        for body in several:
+            yield Row(f"bad body {body[:24]!r}, {len(body)} bytes", post(body) + POST_P + GET_0, [answer, MADE_P, FOUND_P])
     for body in (
         b'{"name":"P"}', b' {"name" : "P"}\r\n', b'{"name":"P","description":null}', b'{"name":7,"name":"P"}',
         b'{"x":1.5,"x":1,"name":"P"}', b'{"name":"\\u0050"}', b'{"x":18446744073709551615,"y":-9223372036854775808,"name":"P"}',
-        b'{"@id":"7","created":"then","name":"P"}', b'{"name":"P","x":' + b"[" * 99 + b"]" * 99 + b"}",
+        b'{"@id":"7","created":"then","name":"P"}', b'{"name":"P","x":' + lists(99) + b"}",
+        b'{"x":' + lists(126) + b',"x":0,"name":"P"}',
     ):  # fmt: skip
         yield Row(f"good body {body[:24]!r}", post(body) + GET_0, [MADE_P, FOUND_P])
+
+
+# bytes that are no text, or no JSON to a reader whose nesting ends at 127
+NO_JSON = (
+    b"", b"{", b'{"name":"P"}}', b'{"name":P}', b"{'name':'P'}", b'{"name":"P",}', b'{"name":"\xff"}', b'{"name":"\\ud800"}',
+    b'{"name":"\x01"}', b'\xef\xbb\xbf{"name":"P"}', b"[" * 101, b"[" * 128 + b"]" * 128, b"[1.5", b'["\\udc00"]', b'"\\ud800"',
+    b'{"x":' + b"[" * 127 + b"]" * 127 + b',"x":0}', b'{"x":1e400,"x":0}', b"[-0,]", b"[" * 101 + b"]" * 100,
+)  # fmt: skip
 
 
 def cut():
@@ -229,25 +232,15 @@ class Fault:
     """A run whose input or output fails: its name, what opens the file in its place, and the line that tells it."""
 
     def __init__(self, name, stdin, stdout, complaint):
-        self.name = name
-        self.stdin = stdin
-        self.stdout = stdout
-        self.complaint = complaint
+        self.name, self.opens, self.complaint = name, (stdin, stdout), complaint
 
     def check(self, program):
-        source, sink = self.stdin(), self.stdout()
+        source, sink = [it() for it in self.opens]
         try:
-            ended = subprocess.run(
-                [program, "-", "once"], stdin=source, stdout=sink, stderr=subprocess.PIPE, timeout=PATIENCE
-            )
-        except subprocess.TimeoutExpired:
-            raise Wrong(f"it had not ended after {PATIENCE} seconds") from None
+            check_end(Run([program, "-", "once"], stdin=source, stdout=sink), 1, self.complaint)
         finally:
             os.close(source)
             os.close(sink)
-        told = (ended.returncode, ended.stderr.decode("utf-8", "replace"))
-        if told != (1, self.complaint):
-            raise Wrong(f"it ended with {told}, and not {(1, self.complaint)}")
 
 
 def faults():
@@ -276,7 +269,7 @@ def pipe_without_reader():
 def main():
     program, started = program_named(), time.monotonic()
     rows, failures = [], []
-    for group in (served, routes, bodies, cut, refused, built, words, faults):
+    for group in (served, routes, bodies, *commit_rows.GROUPS, cut, refused, built, words, faults):
         rows += group()
     for row in rows:
         try:
