@@ -41,6 +41,11 @@ type_line = codes "Content-Type: application/json" ++ line_end
 abbrev pub length_line : ℕ → List ℕ
 length_line size = codes "Content-Length: " ++ decimal size ++ line_end
 
+-- the line of the methods that the target takes, where the response tells them
+abbrev pub allow_line : Option (List ℕ) → List ℕ
+allow_line None = []
+allow_line (Some methods) = codes "Allow: " ++ methods ++ line_end
+
 -- the line that says that the connection ends after the response, where it does
 abbrev pub close_line : Bool → List ℕ
 close_line close = if close then codes "Connection: close" ++ line_end else []
@@ -56,6 +61,7 @@ response_text response =
     ++ date_line response.moment
     ++ type_line
     ++ length_line (length response.body)
+    ++ allow_line response.allow
     ++ close_line response.close
     ++ line_end
     ++ sent_body response
@@ -74,4 +80,4 @@ fixed_body status = codes "{\"@type\":\"Error\",\"error\":\"" ++ fixed_error sta
 -- the text of the response with that body
 unfoldable pub fixed_text : ℕ → ℕ → Bool → Bool → List ℕ
 fixed_text status moment close no_body =
-    response_text (record { status = status; moment = moment; close = close; no_body = no_body; body = fixed_body status })
+    response_text (record { status = status; moment = moment; allow = None; close = close; no_body = no_body; body = fixed_body status })

@@ -1,12 +1,12 @@
 //! The lines of a response's head. Each fits the room of a `Fixed` with the longest phrase and the longest numbers.
 
-ghost use Rattle.std.specs.Prelude.{◌≡◌, ◌+◌, ◌≤◌, ◌++◌, length};
-ghost use Rattle.http_wire.specs.Responses.{HasPhrase, status_line, date_line, type_line, length_line, close_line, line_end};
+ghost use Rattle.std.specs.Prelude.{◌≡◌, ◌+◌, ◌≤◌, ◌++◌, length, OnOk};
+ghost use Rattle.http_wire.specs.Responses.{HasPhrase, status_line, date_line, type_line, length_line, allow_line, close_line, line_end};
 
 use crate::date::http_date;
 use crate::fixed::{Fixed, ROOM};
 use crate::status::phrase;
-use sysapi_base::Moment;
+use sysapi_base::{Memory, Moment, Text};
 
 fn put_status(text: &mut Fixed, status: u16)
     requires phrase { HasPhrase status }
@@ -53,6 +53,28 @@ pub(crate) fn opening(status: u16, moment: Moment, size: usize) -> Fixed
     text.put(b"Content-Type: application/json\r\n");
     put_length(&mut text, size);
     text
+}
+
+/// How many bytes the line of the methods has.
+pub(crate) fn allow_size(allow: &Option<Text>) -> usize
+    ensures { result ≡ length (allow_line allow.now) }
+{
+    match allow {
+        Some(methods) => b"Allow: ".len() + methods.as_str().len() + b"\r\n".len(),
+        None => 0,
+    }
+}
+
+/// Adds the line of the methods, where they are told.
+pub(crate) fn put_allow(text: &mut Vec<u8>, allow: &Option<Text>) -> Result<(), Memory>
+    ensures { OnOk result (text.new.items ≡ text.old.items ++ allow_line allow.now) }
+{
+    if let Some(methods) = allow {
+        text.extend_from_slice(b"Allow: ")?;
+        text.extend_from_slice(methods.as_str().as_bytes())?;
+        text.extend_from_slice(b"\r\n")?;
+    }
+    Ok(())
 }
 
 /// The rest of the head, and the empty line.

@@ -2,9 +2,9 @@ ghost use Rattle.std.specs.Prelude.{◌≡◌, ◌≤◌, [], length, IfOk, if�
 ghost use Rattle.http_wire.specs.Responses.{HasPhrase, IsFixedStatus, fixed_body, fixed_text, response_text};
 
 use crate::fixed::Fixed;
-use crate::lines::{ending, opening};
+use crate::lines::{allow_size, ending, opening, put_allow};
 use std::alloc::Global;
-use sysapi_base::{Bytes, Memory, Moment};
+use sysapi_base::{Bytes, Memory, Moment, Text};
 
 #[cfg(test)]
 mod tests;
@@ -16,6 +16,8 @@ pub struct Response {
     pub status: u16,
     /// When the response was made.
     pub moment: Moment,
+    /// The methods that the target takes, joined by `, `, told by a response of status 405 (RFC 9110, section 10.2.1).
+    pub allow: Option<Text>,
     /// Whether the connection ends after it.
     pub close: bool,
     /// Whether the body is not sent, as in the response to HEAD. The head tells its length all the same.
@@ -35,8 +37,13 @@ pub fn write_response(alloc: Global, response: &Response) -> Result<Vec<u8>, Mem
     let opening = opening.as_slice();
     let ending = ending(response.close);
     let sent = sent(response.no_body, body);
-    let mut text = Vec::with_capacity(alloc, opening.len() + ending.len() + sent.len())?;
+    // The sum of two long texts may pass the largest number, and no vector has so much room.
+    let size = (opening.len() + ending.len())
+        .saturating_add(allow_size(&response.allow))
+        .saturating_add(sent.len());
+    let mut text = Vec::with_capacity(alloc, size)?;
     text.extend_from_slice(opening)?;
+    put_allow(&mut text, &response.allow)?;
     text.extend_from_slice(ending)?;
     text.extend_from_slice(sent)?;
     Ok(text)

@@ -13,15 +13,21 @@ fn moment(millis: u64) -> Result<Moment, Fail> {
 fn written(
     rt: HostRuntime,
     status: u16,
+    allow: Option<&str>,
     close: bool,
     no_body: bool,
     body: &[u8],
 ) -> Result<Vec<u8>, Fail>
     requires { HasPhrase status }
 {
+    let allow = match allow {
+        Some(methods) => Some(Text::of(String::from_str(rt.alloc(), methods)?)),
+        None => None,
+    };
     let response = Response {
         status,
         moment: moment(Y2K)?,
+        allow,
         close,
         no_body,
         body: Bytes::of(Vec::from_slice(rt.alloc(), body)?),
@@ -42,7 +48,7 @@ fn a_project_is_created(rt: HostRuntime) -> Result<(), Fail> {
         b"HTTP/1.1 201 Created\r\nDate: Sat, 01 Jan 2000 00:00:00 GMT\r\nContent-Type: application/json\r\nContent-Length: 194\r\n\r\n",
     )?;
     expected.extend_from_slice(body)?;
-    let text = written(rt, 201, false, false, body)?;
+    let text = written(rt, 201, None, false, false, body)?;
     assert_eq!(rt; text.as_slice(), expected.as_slice());
     Ok(())
 }
@@ -52,6 +58,7 @@ fn a_project_is_unknown(rt: HostRuntime) -> Result<(), Fail> {
     let text = written(
         rt,
         404,
+        None,
         false,
         false,
         br#"{"@type":"Error","error":"unknown-project"}"#,
@@ -67,14 +74,42 @@ fn a_project_is_unknown(rt: HostRuntime) -> Result<(), Fail> {
 fn a_head_alone_tells_the_length(rt: HostRuntime) -> Result<(), Fail> {
     let text = written(
         rt,
+        404,
+        None,
+        true,
+        true,
+        br#"{"@type":"Error","error":"unknown-project"}"#,
+    )?;
+    assert_eq!(rt;
+        text.as_slice(),
+        b"HTTP/1.1 404 Not Found\r\nDate: Sat, 01 Jan 2000 00:00:00 GMT\r\nContent-Type: application/json\r\nContent-Length: 43\r\nConnection: close\r\n\r\n".as_slice()
+    );
+    Ok(())
+}
+
+#[test]
+fn the_methods_are_told(rt: HostRuntime) -> Result<(), Fail> {
+    let text = written(
+        rt,
         405,
+        Some("GET, POST"),
         true,
-        true,
+        false,
         br#"{"@type":"Error","error":"no-method"}"#,
     )?;
     assert_eq!(rt;
         text.as_slice(),
-        b"HTTP/1.1 405 Method Not Allowed\r\nDate: Sat, 01 Jan 2000 00:00:00 GMT\r\nContent-Type: application/json\r\nContent-Length: 37\r\nConnection: close\r\n\r\n".as_slice()
+        b"HTTP/1.1 405 Method Not Allowed\r\nDate: Sat, 01 Jan 2000 00:00:00 GMT\r\nContent-Type: application/json\r\nContent-Length: 37\r\nAllow: GET, POST\r\nConnection: close\r\n\r\n{\"@type\":\"Error\",\"error\":\"no-method\"}".as_slice()
+    );
+    Ok(())
+}
+
+#[test]
+fn an_empty_list_is_found(rt: HostRuntime) -> Result<(), Fail> {
+    let text = written(rt, 200, None, false, false, b"[]")?;
+    assert_eq!(rt;
+        text.as_slice(),
+        b"HTTP/1.1 200 OK\r\nDate: Sat, 01 Jan 2000 00:00:00 GMT\r\nContent-Type: application/json\r\nContent-Length: 2\r\n\r\n[]".as_slice()
     );
     Ok(())
 }
@@ -118,6 +153,7 @@ fn threads_can_share_them(rt: HostRuntime) -> Result<(), Fail> {
     shared(Response {
         status: 200,
         moment,
+        allow: None,
         close: false,
         no_body: false,
         body,
