@@ -1,5 +1,7 @@
 pub mod Entries
+pub mod Lists
 pub mod Saying
 pub mod Listing
 pub mod Changing
 pub mod Stays
+pub mod Staying

@@ -1,79 +1,73 @@
--- The ids of the histories that say a value at a point.
-use Rattle.std.proofs.Common.{◌≡◌, ℕ, ◌==◌, ◌||◌, List, [], ◌∷◌, map, Bool, true, false, cond, eqb-true, Option, Some, None, is_some, unwrap_or, refl, sym, ap, ap₂, ◌∙◌, arith}
-use Rattle.std.specs.declared.cmp.Ordering.TheVariants.{Less}
-use Rattle.std.specs.Ordering.{nat_cmp}
-use Rattle.std.specs.FinMap.{find}
-use Rattle.std.specs.List.{AllByRecursion}
+-- The ids that have a value at a point.
+use Rattle.std.proofs.Common.{◌≡◌, ℕ, ◌&&◌, List, [], ◌∷◌, map, filter, take, length, Bool, true, false, Option, Some, None, is_some, unwrap_or, refl, sym, ap, ◌∙◌, Ordering}
+use Rattle.std.specs.declared.cmp.Ordering.TheVariants.{Less, Equal, Greater}
+use Rattle.std.specs.Ordering.{nat_cmp, is_lt}
+use Rattle.std.specs.FinMap.{find, is_sorted}
+use Rattle.std.specs.FinMap.Entries.{below_all, is_some-find}
+use Rattle.std.specs.List.{AllByRecursion, list_any}
 use Rattle.std.specs.List.Sorted.{IsStrictlySortedBy}
-use Rattle.std.proofs.lemmas.Grind.{common_steps}
+use Rattle.std.proofs.lemmas.Bool.{and_parts}
+use Rattle.std.proofs.lemmas.List.Kept.{IsStrictlySortedBy-filter}
+use Rattle.std.proofs.lemmas.List.{length-map}
+use Rattle.std.proofs.Math.Seq.{take-length}
+use Rattle.pmap.specs.Range.{comes_after, keys_after}
 use Rattle.timeline.specs.Values.{last_said, value_in, has, IsListAt}
 use Rattle.timeline.proofs.Entries.{same_id}
+use Rattle.timeline.proofs.Lists.{has_filter}
 
 abbrev pub keys_of : {X : Type 0} → List (ℕ × X) → List ℕ
 keys_of es = map (λ e. e.0) es
 
-abbrev pub ids_with : {T : Type 0} → ℕ → List (ℕ × List (ℕ × Option T)) → List ℕ
-ids_with n [] = []
-ids_with n (h ∷ hs) = cond (is_some (last_said h.1 n None)) (h.0 ∷ ids_with n hs) (ids_with n hs)
+less : (o : Ordering) → is_lt o ≡ true → o ≡ Less
+less Less e = refl
+less Equal e = cc
+less Greater e = cc
+
+module _ {X : Type 0} where
+  keys_above : (k : ℕ) (es : List (ℕ × X)) → below_all nat_cmp k es ≡ true → AllByRecursion (λ y. nat_cmp k y ≡ Less) (keys_of es)
+  keys_above k [] h = tt
+  keys_above k (e ∷ es) h = let p = and_parts _ _ h in (less (nat_cmp k e.0) p.0, keys_above k es p.1)
+
+  pub keys_rise : (es : List (ℕ × X)) → is_sorted nat_cmp es ≡ true → IsStrictlySortedBy nat_cmp (keys_of es)
+  unfolding IsStrictlySortedBy
+  keys_rise [] h = tt
+  keys_rise (e ∷ es) h = let p = and_parts _ _ h in (keys_above e.0 es p.0, keys_rise es p.1)
+
+  -- an id is among the keys exactly where a look-up finds it
+  pub found_has : (es : List (ℕ × X)) (q : ℕ) → has (keys_of es) q ≡ is_some (find nat_cmp q es)
+  found_has es q = sym (is_some-find nat_cmp q es ∙ (λ i. list_any (λ x. same_id q x i) (keys_of es)))
+
+-- where there is no bound, each key comes after it
+all_pass : (ks : List ℕ) → filter (comes_after nat_cmp None) ks ≡ ks
+all_pass [] = refl
+all_pass (k ∷ ks) = ap (λ l. k ∷ l) (all_pass ks)
+
+-- a range with no bound, as long as the map, has each key
+pub each_key : {X : Type 0} (n : ℕ) (es : List (ℕ × X)) → n ≡ length es → take n (keys_after nat_cmp None es) ≡ keys_of es
+each_key n es is =
+    ap (take n) (all_pass (keys_of es)) ∙ ap (λ m. take m (keys_of es)) (is ∙ sym (length-map es (λ e. e.0))) ∙ take-length (keys_of es)
+
+and_true : (b : Bool) → (b && true) ≡ b
+and_true true = refl
+and_true false = refl
 
 module _ {T : Type 0} (n : ℕ) where
-  all_with : (P : ℕ → Type 0) (hs : List (ℕ × List (ℕ × Option T))) → AllByRecursion P (keys_of hs) → AllByRecursion P (ids_with n hs)
-  all_with P [] all = tt
-  all_with P (h ∷ hs) all =
-      elim (is_some (last_said h.1 n None)) as (λ b. AllByRecursion P (cond b (h.0 ∷ ids_with n hs) (ids_with n hs))) [
-        | true ↦ (all.0, all_with P hs all.1)
-        | false ↦ all_with P hs all.1
-      ]
+  abbrev says : List (ℕ × Option T) → Bool
+  says cs = is_some (last_said cs n None)
 
-  ordered_with : (hs : List (ℕ × List (ℕ × Option T))) → IsStrictlySortedBy nat_cmp (keys_of hs) → IsStrictlySortedBy nat_cmp (ids_with n hs)
-  unfolding IsStrictlySortedBy
-  ordered_with [] up = tt
-  ordered_with (h ∷ hs) up =
-      elim (is_some (last_said h.1 n None)) as (λ b. IsStrictlySortedBy nat_cmp (cond b (h.0 ∷ ids_with n hs) (ids_with n hs))) [
-        | true ↦ (all_with (λ y. nat_cmp h.0 y ≡ Less) hs up.0, ordered_with hs up.1)
-        | false ↦ ordered_with hs up.1
-      ]
+  -- only an id that is there says a value
+  says_where_found : (o : Option (List (ℕ × Option T))) → (says (unwrap_or o []) && is_some o) ≡ says (unwrap_or o [])
+  says_where_found None = refl
+  says_where_found (Some cs) = and_true (says cs)
 
-less_differs : (q y : ℕ) → nat_cmp q y ≡ Less → (q == y) ≡ false
-less_differs q y lt = first_of (grind (arith, common_steps), grind arith)
-
--- an id below all of the list is not in it
-not_below : (q : ℕ) (ks : List ℕ) → AllByRecursion (λ y. nat_cmp q y ≡ Less) ks → has ks q ≡ false
-not_below q [] all = refl
-not_below q (k ∷ ks) all = ap₂ (λ a b. a || b) (less_differs q k all.0) (not_below q ks all.1)
-
--- a first entry, whose id is q or not, and which says a value or not
-bools : (s e r f : Bool) → r ≡ f → (e ≡ true → r ≡ false) → cond s (e || r) r ≡ cond e s f
-bools true true r f p h = refl
-bools true false r f p h = p
-bools false true r f p h = h refl
-bools false false r f p h = p
-
-has_first : (q : ℕ) (s : Bool) (k : ℕ) (ids : List ℕ) → has (cond s (k ∷ ids) ids) q ≡ cond s ((q == k) || has ids q) (has ids q)
-has_first q true k ids = refl
-has_first q false k ids = refl
-
-module _ {T : Type 0} (n : ℕ) (q : ℕ) where
-  abbrev found : List (ℕ × List (ℕ × Option T)) → Bool
-  found hs = is_some (value_in hs q n)
-
-  found_first : (e : Bool) (cs : List (ℕ × Option T)) (o : Option (List (ℕ × Option T))) → cond e (is_some (last_said cs n None)) (is_some (last_said (unwrap_or o []) n None)) ≡ is_some (last_said (unwrap_or (cond e (Some cs) o) []) n None)
-  found_first true cs o = refl
-  found_first false cs o = refl
-
-  has_with : (hs : List (ℕ × List (ℕ × Option T))) → IsStrictlySortedBy nat_cmp (keys_of hs) → has (ids_with n hs) q ≡ found hs
-  unfolding IsStrictlySortedBy
-  has_with [] up = refl
-  has_with (h ∷ hs) up =
-      has_first q (is_some (last_said h.1 n None)) h.0 (ids_with n hs)
-      ∙ bools (is_some (last_said h.1 n None)) (q == h.0) (has (ids_with n hs) q) (found hs) (has_with hs up.1)
-      (λ e. ap (has (ids_with n hs)) (eqb-true q h.0 e) ∙ not_below h.0 (ids_with n hs) (all_with n (λ y. nat_cmp h.0 y ≡ Less) hs up.0))
-      ∙ found_first (q == h.0) h.1 (find nat_cmp q hs)
-      ∙ ap (λ b. is_some (last_said (unwrap_or (cond b (Some h.1) (find nat_cmp q hs)) []) n None)) (sym (same_id q h.0))
-
-pub lists : {T : Type 0} (n : ℕ) (hs : List (ℕ × List (ℕ × Option T))) → IsStrictlySortedBy nat_cmp (keys_of hs) → IsListAt (value_in hs) n (ids_with n hs)
-lists n hs up = record { ordered = ordered_with n hs up; all = λ q. has_with n q hs up }
-
-pub none_listed : {T : Type 0} (n : ℕ) → IsListAt {T = T} (value_in []) n []
-unfolding IsStrictlySortedBy
-none_listed {T} n = lists {T = T} n [] tt
+  pub lists : (hs : List (ℕ × List (ℕ × Option T))) → IsStrictlySortedBy nat_cmp (keys_of hs) → IsListAt (value_in hs) n (filter (λ q. is_some (value_in hs q n)) (keys_of hs))
+  lists hs up = record {
+    ordered = IsStrictlySortedBy-filter nat_cmp said (keys_of hs) up;
+    all = λ q.
+        has_filter said (keys_of hs) q
+        ∙ ap (λ b. said q && b) (found_has hs q)
+        ∙ says_where_found (find nat_cmp q hs);
+  }
+    where
+      said : ℕ → Bool
+      said q = is_some (value_in hs q n)

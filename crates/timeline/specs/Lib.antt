@@ -1,4 +1,3 @@
 pub mod Values
 pub mod Later
 pub mod Seen
-pub mod Shared

@@ -1,33 +1,35 @@
-ghost use Rattle.std.specs.Prelude.{◌≡◌, ◌≤◌, [], ◌∷◌, ◌++◌, All, IfOk, option_map};
+ghost use Rattle.std.specs.Prelude.{◌≡◌, ◌≤◌, [], ◌∷◌, ◌++◌, All, IfOk, map, is_some, option_map};
 ghost use Rattle.std.specs.Ordering.{nat_cmp};
 ghost use Rattle.std.specs.FinMap.{find, put};
+ghost use Rattle.std.specs.List.Sorted.{IsStrictlySortedBy};
 ghost use Rattle.timeline.specs.Values.{IsListAt, changes_of, value_in};
-ghost use Rattle.timeline.specs.Shared.{shared};
 
 use crate::history::History;
+use pmap::PMap;
 use std::alloc::Global;
-use std::collections::BTreeMap;
 use std::marker::Model;
 use std::sync::Arc;
 use sysapi_base::{Id, Memory};
 
-/// The histories of ids, seen as their list in the ids' order. The map is there from the first history on.
+/// The histories of ids, seen as their list in the ids' order.
 #[derive(Drop)]
 pub struct Histories<T> {
-    by_id: Option<Arc<BTreeMap<Id, Arc<History<T>>>>>,
+    by_id: PMap<Id, History<T>>,
 }
 
 impl<T> Model for Histories<T> {
-    ghost use Rattle.std.specs.Prelude.{ℕ, List, Option};
+    ghost use Rattle.std.specs.Prelude.{ℕ, List, Option, IsTrue};
     ghost use Rattle.std.specs.Coded.{coded_list, coded×, coded_ℕ, coded_option};
+    ghost use Rattle.std.specs.Ordering.{nat_cmp};
+    ghost use Rattle.std.specs.FinMap.{is_sorted};
 
     ghost Value = { List (ℕ × List (ℕ × Option T)) };
 
     ghost coded = { coded_list (coded× coded_ℕ (coded_list (coded× coded_ℕ (coded_option T.code)))) };
 
-    ghost use Rattle.timeline.specs.Shared.{shared_entries};
+    ghost view = { λ a. a.by_id };
 
-    ghost view = { λ a. shared_entries a.by_id };
+    ghost invariant = { λ a. IsTrue (is_sorted nat_cmp a.by_id) };
 }
 
 impl<T: Drop> Histories<T> {
@@ -35,28 +37,23 @@ impl<T: Drop> Histories<T> {
     pub fn new() -> Histories<T>
         ensures { result ≡ [] }
     {
-        Histories { by_id: None }
+        Histories { by_id: PMap::new() }
     }
 
     /// The same histories, of one owner more.
     pub fn share(&self) -> Result<Histories<T>, Memory>
         ensures { IfOk result (λ h. h ≡ self.now) }
     {
-        let by_id = match &self.by_id {
-            Some(by_id) => Some(Arc::try_clone(by_id)?),
-            None => None,
-        };
-        Ok(Histories { by_id })
+        Ok(Histories {
+            by_id: self.by_id.share()?,
+        })
     }
 
     /// The history of an id.
     pub fn find(&self, id: Id) -> Option<&History<T>>
         ensures { option_map (λ h. h.now) result ≡ find nat_cmp id self.now }
     {
-        match &self.by_id {
-            Some(by_id) => found(by_id, id),
-            None => None,
-        }
+        self.by_id.find(&id)
     }
 
     /// The history of an id, and one more change in it.
@@ -77,60 +74,38 @@ impl<T: Drop> Histories<T> {
         }
     }
 
-    /// The histories with this one at the id.
+    /// The histories with this one at the id. It copies the path to the id, and shares all else.
     pub fn with(&self, alloc: Global, id: Id, history: History<T>) -> Result<Histories<T>, Memory>
         ensures { IfOk result (λ h. h ≡ put nat_cmp id history self.now) }
     {
-        let mut by_id = self.copy(alloc)?;
-        drop(by_id.insert(id, Arc::new(alloc, history)?)?);
+        let history = Arc::new(alloc, history)?;
         Ok(Histories {
-            by_id: Some(Arc::new(alloc, by_id)?),
+            by_id: self.by_id.insert(alloc, id, history)?,
         })
-    }
-
-    // A map of the same histories.
-    fn copy(&self, alloc: Global) -> Result<BTreeMap<Id, Arc<History<T>>>, Memory>
-        ensures { IfOk result (λ m. shared m.entries ≡ self.now) }
-    {
-        match &self.by_id {
-            Some(by_id) => Ok(BTreeMap::clone(by_id)?),
-            None => Ok(BTreeMap::new(alloc)),
-        }
     }
 
     /// The ids whose last change at or before the point says a value.
     pub fn ids_at(&self, alloc: Global, n: u64) -> Result<Vec<Id>, Memory>
         ensures { IfOk result (λ v. IsListAt (value_in self.now) n v.items) }
     {
-        match &self.by_id {
-            Some(by_id) => ids_in(alloc, by_id, n),
-            None => Ok(Vec::new(alloc)),
-        }
+        let mut ids = self.ids(alloc)?;
+        ids.retain(|id| self.says_at(*id, n));
+        Ok(ids)
     }
-}
 
-fn found<T: Drop>(by_id: &BTreeMap<Id, Arc<History<T>>>, id: Id) -> Option<&History<T>>
-    ensures { option_map (λ h. h.now) result ≡ find nat_cmp id (shared by_id.now.entries) }
-{
-    match by_id.get(&id) {
-        Some(history) => Some(history),
-        None => None,
+    // All ids, ascending.
+    fn ids(&self, alloc: Global) -> Result<Vec<Id>, Memory>
+        ensures all { IfOk result (λ v. v.items ≡ map (λ h. h.0) self.now) }
+        ensures rise { IfOk result (λ v. IsStrictlySortedBy nat_cmp v.items) }
+    {
+        self.by_id
+            .range_after(alloc, None, self.by_id.len() as usize)
     }
-}
 
-fn ids_in<T: Drop>(
-    alloc: Global,
-    by_id: &BTreeMap<Id, Arc<History<T>>>,
-    n: u64,
-) -> Result<Vec<Id>, Memory>
-    ensures { IfOk result
-        (λ v. IsListAt (value_in (shared by_id.now.entries)) n v.items) }
-{
-    let mut ids = Vec::new(alloc);
-    for (id, history) in by_id.iter() {
-        if history.at(n).is_some() {
-            ids.push(*id)?;
-        }
+    // Whether the last change of the id at or before the point says a value.
+    fn says_at(&self, id: Id, n: u64) -> bool
+        ensures { result ≡ is_some (value_in self.now id n) }
+    {
+        self.find(id).and_then(|history| history.at(n)).is_some()
     }
-    Ok(ids)
 }

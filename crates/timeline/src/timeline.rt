@@ -87,10 +87,11 @@ impl<T: Drop> Timeline<T> {
         self.change(alloc, id, n, None)
     }
 
-    /// The id's value at the point. It looks the id up, and searches its own changes by halves.
+    /// The id's value at the point. It looks the id up, and searches its own changes by halves. From the last point on a value stays.
     #[tactic(auto, unfolding(crate::specs::Values::value_at))]
     pub fn at(&self, id: Id, n: u64) -> Option<&T>
-        ensures { option_map (λ v. v.now) result ≡ value_at self.now id n }
+        ensures value { option_map (λ v. v.now) result ≡ value_at self.now id n }
+        ensures stays { (m : ℕ) → last_point self.now ≤ n → n ≤ m → value_at self.now id m ≡ value_at self.now id n }
     {
         self.histories.find(id)?.at(n)
     }
