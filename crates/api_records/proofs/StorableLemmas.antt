@@ -108,14 +108,14 @@ changes_stored key (Some other) h cs e = absurd cc
 
 -- ---- commits
 
-commit_storable : (project : ℕ) (d : Document) → IsSound d → (command : Command) → commit_in project d ≡ Ok command → HasFew command → IsStorable command
-commit_storable project d sound command e few =
+commit_storable : (project : ℕ) (branch : Option ℕ) (d : Document) → IsSound d → (command : Command) → commit_in project branch d ≡ Ok command → HasFew command → IsStorable command
+commit_storable project branch d sound command e few =
     let changes = inverted (changes_or_none (codes "change") (field_at (codes "change") d)) _ command e in
     let description = inverted (optional_text (codes "description") d) _ command changes.2 in
-    let previous = inverted (references_or_none (codes "previousCommit") (field_at (codes "previousCommit") d)) (λ ids. Ok (CreateCommit project ids description.0 changes.0)) command description.2 in
+    let previous = inverted (references_or_none (codes "previousCommit") (field_at (codes "previousCommit") d)) (λ ids. Ok (CreateCommit project branch ids description.0 changes.0)) command description.2 in
     let stored : AllStored changes.0 = changes_stored (codes "change") (field_at (codes "change") d) (field_fits 99 (codes "change") d (record { range = sound.range; shallow = sound.shallow })) changes.0 changes.1 in
-    subst (λ (x : Command). HasFew x → IsStorable x) (same (CreateCommit project previous.0 description.0 changes.0) command previous.2) (λ less. (stored, less)) few
+    subst (λ (x : Command). HasFew x → IsStorable x) (same (CreateCommit project branch previous.0 description.0 changes.0) command previous.2) (λ less. (stored, less)) few
 
-pub command_storable : (r : Result Command ShapeError) (project : ℕ) (d : Document) → IsSound d → Shapes r (commit_in project d) → IfOk r HasFew → IfOk r IsStorable
-command_storable (Ok command) project d sound e few = commit_storable project d sound command e few
-command_storable (Err error) project d sound e few = tt
+pub command_storable : (r : Result Command ShapeError) (project : ℕ) (branch : Option ℕ) (d : Document) → IsSound d → Shapes r (commit_in project branch d) → IfOk r HasFew → IfOk r IsStorable
+command_storable (Ok command) project branch d sound e few = commit_storable project branch d sound command e few
+command_storable (Err error) project branch d sound e few = tt

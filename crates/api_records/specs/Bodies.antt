@@ -8,7 +8,7 @@ use Rattle.doc_value.specs.declared.doc.Doc.{Doc}
 use Rattle.doc_value.specs.declared.doc.Doc.TheVariants as doc
 use Rattle.api_records.specs.declared.command.Change.{Change}
 use Rattle.api_records.specs.declared.command.Command.{Command}
-use Rattle.api_records.specs.declared.command.Command.TheVariants.{CreateProject, CreateCommit}
+use Rattle.api_records.specs.declared.command.Command.TheVariants.{CreateProject, UpdateProject, CreateCommit, CreateBranch, CreateTag}
 use Rattle.api_records.specs.declared.body.BodyKind.{BodyKind}
 use Rattle.api_records.specs.declared.body.BodyKind.TheVariants as kind
 use Rattle.api_records.specs.declared.body.ShapeError.{ShapeError}
@@ -112,27 +112,64 @@ abbrev pub project_in : Document → Judged Command
 project_in d = and_then (optional_text (codes "name") d) (λ name. and_then (optional_text (codes "description") d)
     (λ description. Ok (CreateProject name description)))
 
+-- `name`, then `description`, then `defaultBranch`
+abbrev pub update_in : ℕ → Document → Judged Command
+update_in project d = and_then (optional_text (codes "name") d) (λ name. and_then (optional_text (codes "description") d)
+    (λ description. and_then (reference_or_none (codes "defaultBranch") (field_at (codes "defaultBranch") d))
+    (λ branch. Ok (UpdateProject project name description branch))))
+
 -- `change`, then `description`, then `previousCommit`
-abbrev pub commit_in : ℕ → Document → Judged Command
-commit_in project d = and_then (changes_or_none (codes "change") (field_at (codes "change") d))
+abbrev pub commit_in : ℕ → Option ℕ → Document → Judged Command
+commit_in project branch d = and_then (changes_or_none (codes "change") (field_at (codes "change") d))
     (λ changes. and_then (optional_text (codes "description") d)
     (λ description. and_then (references_or_none (codes "previousCommit") (field_at (codes "previousCommit") d))
-    (λ previous. Ok (CreateCommit project previous description changes))))
+    (λ previous. Ok (CreateCommit project branch previous description changes))))
 
--- the ids of a body's route: none for a project, and the project's for a commit
+-- the commit at which a branch begins: that of `head`, and where `head` is absent that of `referencedCommit`
+abbrev pub head_in : Option Document → Option Document → Judged (Option ℕ)
+head_in None referenced = reference_or_none (codes "referencedCommit") referenced
+head_in (Some head) referenced = reference_or_none (codes "head") (Some head)
+
+-- `name`, then the head
+abbrev pub branch_in : ℕ → Document → Judged Command
+branch_in project d = and_then (optional_text (codes "name") d)
+    (λ name. and_then (head_in (field_at (codes "head") d) (field_at (codes "referencedCommit") d))
+    (λ head. Ok (CreateBranch project name head)))
+
+-- the commit of a tag: that of `taggedCommit`, and where this is absent that of `referencedCommit`; one of them has to be there
+abbrev pub tagged_in : Option Document → Option Document → Judged ℕ
+tagged_in (Some tagged) referenced = or_wrong (codes "taggedCommit") (reference tagged)
+tagged_in None (Some referenced) = or_wrong (codes "referencedCommit") (reference referenced)
+tagged_in None None = Err (codes "taggedCommit")
+
+-- `name`, then the commit
+abbrev pub tag_in : ℕ → Document → Judged Command
+tag_in project d = and_then (optional_text (codes "name") d)
+    (λ name. and_then (tagged_in (field_at (codes "taggedCommit") d) (field_at (codes "referencedCommit") d))
+    (λ commit. Ok (CreateTag project name commit)))
+
+-- the ids of a body's route: none for a project that is to be made, and the project's for all others
 abbrev pub HasIds : BodyKind → List ℕ → Type 0
 HasIds kind.Project ids = ids ≡ []
-HasIds kind.Commit ids = (project : ℕ) × (ids ≡ project ∷ [])
+HasIds other ids = (project : ℕ) × (ids ≡ project ∷ [])
 
-abbrev pub object_in : BodyKind → List ℕ → Document → Judged Command
-object_in kind.Project ids d = project_in d
-object_in kind.Commit [] d = Err []
-object_in kind.Commit (project ∷ more) d = commit_in project d
+-- the command of an object on a project; `branch` is the one that the request names, which commits alone use
+abbrev pub in_project : BodyKind → ℕ → Option ℕ → Document → Judged Command
+in_project kind.Project project branch d = project_in d
+in_project kind.ProjectUpdate project branch d = update_in project d
+in_project kind.Commit project branch d = commit_in project branch d
+in_project kind.Branch project branch d = branch_in project d
+in_project kind.Tag project branch d = tag_in project d
+
+abbrev pub object_in : BodyKind → List ℕ → Option ℕ → Document → Judged Command
+object_in kind.Project ids branch d = project_in d
+object_in other [] branch d = Err []
+object_in other (project ∷ more) branch d = in_project other project branch d
 
 -- the command of a body, or the wrong key
-abbrev pub command_in : BodyKind → List ℕ → Document → Judged Command
-command_in k ids (object fs) = object_in k ids (object fs)
-command_in k ids other = Err []
+abbrev pub command_in : BodyKind → List ℕ → Option ℕ → Document → Judged Command
+command_in k ids branch (object fs) = object_in k ids branch (object fs)
+command_in k ids branch other = Err []
 
 -- ---- what the code answers
 

@@ -8,6 +8,7 @@ use Rattle.doc_value.specs.declared.doc.Doc.{Doc}
 use Rattle.doc_value.specs.declared.doc.Doc.TheVariants as doc
 use Rattle.api_records.specs.declared.record.Project.{Project}
 use Rattle.api_records.specs.declared.record.Branch.{Branch}
+use Rattle.api_records.specs.declared.record.Tag.{Tag}
 use Rattle.api_records.specs.declared.record.Commit.{Commit}
 use Rattle.api_records.specs.declared.record.Version.{Version}
 
@@ -41,6 +42,18 @@ branch_doc b = doc.Object (
     ∷ (codes "referencedCommit", reference_or_null b.head)
     ∷ [])
 
+-- `referencedCommit` and `taggedCommit` are the one commit under two names
+abbrev pub tag_doc : Tag → Doc
+tag_doc t = doc.Object (
+    (codes "@id", text (id_text t.id))
+    ∷ (codes "@type", text (codes "Tag"))
+    ∷ (codes "created", text (moment_text t.created))
+    ∷ (codes "name", text_or_null t.name)
+    ∷ (codes "owningProject", reference_to t.project)
+    ∷ (codes "referencedCommit", reference_to t.commit)
+    ∷ (codes "taggedCommit", reference_to t.commit)
+    ∷ [])
+
 abbrev pub commit_doc : Commit → Doc
 commit_doc c = doc.Object (
     (codes "@id", text (id_text c.id))
@@ -66,3 +79,7 @@ version_doc v = doc.Object (
     ∷ (codes "identity", identity_of v.identity)
     ∷ (codes "payload", payload_or_null v.payload)
     ∷ [])
+
+-- the depth of a record's document is at most this: a payload stands one level down in its version, and all other records are flatter
+abbrev pub record_depth : ℕ
+record_depth = 98

@@ -6,7 +6,7 @@ use Rattle.doc_value.specs.Reference.{reference}
 use Rattle.doc_value.specs.Seen.{document}
 use Rattle.doc_value.specs.declared.doc.Doc.{Doc}
 use Rattle.api_records.specs.declared.command.Command.{Command}
-use Rattle.api_records.specs.declared.command.Command.TheVariants.{CreateProject, CreateCommit}
+use Rattle.api_records.specs.declared.command.Command.TheVariants.{CreateCommit}
 
 -- the deepest payload of a body that keeps the limit of 100: it stands three levels down, in the body, `change` and a member of it
 abbrev pub payload_depth : ℕ
@@ -33,13 +33,13 @@ IsStored (Some d) = IsPayload (document d)
 
 -- each payload of a commit is right, and its changes are so few that each place is a number of 32 bits
 abbrev pub IsStorable : Command → Type 0
-IsStorable (CreateProject name description) = ⊤
-IsStorable (CreateCommit project previous description changes) = All (λ c. IsStored c.payload) changes × (length changes < 2 ^ 32)
+IsStorable (CreateCommit project branch previous description changes) = All (λ c. IsStored c.payload) changes × (length changes < 2 ^ 32)
+IsStorable other = ⊤
 
 -- the second half of it
 abbrev pub HasFew : Command → Type 0
-HasFew (CreateProject name description) = ⊤
-HasFew (CreateCommit project previous description changes) = length changes < 2 ^ 32
+HasFew (CreateCommit project branch previous description changes) = length changes < 2 ^ 32
+HasFew other = ⊤
 
 -- the payload of a version, if there is one, fits into its record
 abbrev pub IsShallow : Option Doc → Type 0

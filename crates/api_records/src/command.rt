@@ -58,14 +58,56 @@ pub enum Command {
         /// What its maker says of it.
         description: Option<Text>,
     },
-    /// Makes a commit on the project's default branch, whose head it becomes.
+    /// Replaces a project's name and description and, where one is given, its default branch.
+    UpdateProject {
+        project: Id,
+        /// What it is called from now on.
+        name: Option<Text>,
+        /// What is said of it from now on.
+        description: Option<Text>,
+        /// The branch that is its default one from now on. Without one it keeps the old one.
+        default_branch: Option<Id>,
+    },
+    /// Ends a project. Its commits stay.
+    DeleteProject {
+        project: Id,
+    },
+    /// Makes a commit on a branch of the project, whose head it becomes.
     CreateCommit {
         project: Id,
+        /// The branch. Without one it is the project's default branch.
+        branch: Option<Id>,
         /// The commits that it is to follow: none, or the branch's head.
         previous: Ids,
         /// What its maker says of it.
         description: Option<Text>,
         /// What it does to the data, in order.
         changes: Changes,
+    },
+    /// Makes a branch of the project.
+    CreateBranch {
+        project: Id,
+        /// What its maker calls it.
+        name: Option<Text>,
+        /// The commit at which it begins, if there is one.
+        head: Option<Id>,
+    },
+    /// Ends a branch. Its commits stay.
+    DeleteBranch {
+        project: Id,
+        branch: Id,
+    },
+    /// Makes a tag of the project.
+    CreateTag {
+        project: Id,
+        /// What its maker calls it.
+        name: Option<Text>,
+        /// The commit that it refers to.
+        commit: Id,
+    },
+    /// Ends a tag. Its commit stays.
+    DeleteTag {
+        project: Id,
+        tag: Id,
     },
 }

@@ -13,7 +13,7 @@ pub use body::{BodyKind, ShapeError};
 pub use command::{Change, Changes, Command};
 pub use document::optional_reference_doc;
 pub use laws::draws_the_least;
-pub use record::{Branch, Commit, Project, Version};
+pub use record::{Branch, Commit, Project, Tag, Version};
 pub use refusal::Refusal;
 
 #[cfg(test)]

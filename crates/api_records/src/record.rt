@@ -1,7 +1,7 @@
-ghost use Rattle.std.specs.Prelude.{◌≡◌, IfOk};
-ghost use Rattle.doc_value.specs.Document.{IsSound};
+ghost use Rattle.std.specs.Prelude.{◌≡◌, ◌≤◌, IfOk};
+ghost use Rattle.doc_value.specs.Document.{IsSound, depth};
 ghost use Rattle.doc_value.specs.Seen.{document};
-ghost use Rattle.api_records.specs.Records.{project_doc, branch_doc, commit_doc, version_doc};
+ghost use Rattle.api_records.specs.Records.{project_doc, branch_doc, tag_doc, commit_doc, version_doc, record_depth};
 ghost use Rattle.api_records.specs.Storable.{IsShallow};
 
 use crate::document::{
@@ -19,7 +19,7 @@ pub struct Project {
     pub name: Option<Text>,
     /// What its maker says of it.
     pub description: Option<Text>,
-    /// The branch that was made with it.
+    /// The branch that is meant where none is named: the one that was made with it, until an update names another.
     pub default_branch: Id,
     /// The moment of the command that made it.
     pub created: Moment,
@@ -30,6 +30,7 @@ impl Project {
     pub fn to_doc(&self, alloc: Global) -> Result<Doc, Memory>
         ensures doc { IfOk result (λ d. d ≡ project_doc self.now) }
         ensures sound { IfOk result (λ d. IsSound (document d)) }
+        ensures shallow { IfOk result (λ d. depth (document d) ≤ record_depth) }
     {
         let mut fields = Fields::new(alloc);
         fields.insert(alloc, "@id", id_doc(alloc, self.id)?)?;
@@ -57,7 +58,7 @@ pub struct Branch {
     pub project: Id,
     /// What its maker calls it. A default branch has no name.
     pub name: Option<Text>,
-    /// The last commit on it, if there is one.
+    /// The last commit on it, or else the one at which it began, if there is one.
     pub head: Option<Id>,
     /// The moment of the command that made it.
     pub created: Moment,
@@ -68,6 +69,7 @@ impl Branch {
     pub fn to_doc(&self, alloc: Global) -> Result<Doc, Memory>
         ensures doc { IfOk result (λ d. d ≡ branch_doc self.now) }
         ensures sound { IfOk result (λ d. IsSound (document d)) }
+        ensures shallow { IfOk result (λ d. depth (document d) ≤ record_depth) }
     {
         let mut fields = Fields::new(alloc);
         fields.insert(alloc, "@id", id_doc(alloc, self.id)?)?;
@@ -81,6 +83,42 @@ impl Branch {
             "referencedCommit",
             optional_reference_doc(alloc, self.head)?,
         )?;
+        Ok(Doc::Object(fields))
+    }
+}
+
+/// A tag (Systems Modeling API 1.0, Tag).
+#[derive(Drop)]
+pub struct Tag {
+    pub id: Id,
+    pub project: Id,
+    /// What its maker calls it.
+    pub name: Option<Text>,
+    /// The commit that it refers to.
+    pub commit: Id,
+    /// The moment of the command that made it.
+    pub created: Moment,
+}
+
+impl Tag {
+    /// The tag's document, its keys in the order of their bytes.
+    pub fn to_doc(&self, alloc: Global) -> Result<Doc, Memory>
+        ensures doc { IfOk result (λ d. d ≡ tag_doc self.now) }
+        ensures sound { IfOk result (λ d. IsSound (document d)) }
+        ensures shallow { IfOk result (λ d. depth (document d) ≤ record_depth) }
+    {
+        let mut fields = Fields::new(alloc);
+        fields.insert(alloc, "@id", id_doc(alloc, self.id)?)?;
+        fields.insert(alloc, "@type", Doc::of_text(alloc, "Tag")?)?;
+        fields.insert(alloc, "created", moment_doc(alloc, self.created)?)?;
+        fields.insert(alloc, "name", Doc::of_text_or_null(alloc, &self.name)?)?;
+        fields.insert(alloc, "owningProject", reference_doc(alloc, self.project)?)?;
+        fields.insert(
+            alloc,
+            "referencedCommit",
+            reference_doc(alloc, self.commit)?,
+        )?;
+        fields.insert(alloc, "taggedCommit", reference_doc(alloc, self.commit)?)?;
         Ok(Doc::Object(fields))
     }
 }
@@ -103,6 +141,7 @@ impl Commit {
     pub fn to_doc(&self, alloc: Global) -> Result<Doc, Memory>
         ensures doc { IfOk result (λ d. d ≡ commit_doc self.now) }
         ensures sound { IfOk result (λ d. IsSound (document d)) }
+        ensures shallow { IfOk result (λ d. depth (document d) ≤ record_depth) }
     {
         let mut fields = Fields::new(alloc);
         fields.insert(alloc, "@id", id_doc(alloc, self.id)?)?;
@@ -139,6 +178,7 @@ impl Version {
         requires { IsShallow self.now.payload }
         ensures doc { IfOk result (λ d. d ≡ version_doc self.now) }
         ensures sound { IfOk result (λ d. IsSound (document d)) }
+        ensures shallow { IfOk result (λ d. depth (document d) ≤ record_depth) }
     {
         let mut fields = Fields::new(alloc);
         fields.insert(alloc, "@id", id_doc(alloc, self.id)?)?;

@@ -10,10 +10,14 @@ pub enum Refusal {
     UnknownProject,
     /// No branch of the project has this id.
     UnknownBranch,
+    /// No tag of the project has this id.
+    UnknownTag,
     /// No commit of the project has this id.
     UnknownCommit,
     /// The commit is to follow another one than the branch's head, which is told.
     HeadMoved { head: Option<Id> },
+    /// The branch is the project's default one, which can't be deleted.
+    DefaultBranch,
     /// The commit is to follow several commits.
     MultiplePrevious,
     /// The identity of a change and its payload's `@id` differ.
@@ -26,6 +30,8 @@ pub enum Refusal {
     UnknownPin { place: u32 },
     /// No element of the commit has this id.
     UnknownElement,
+    /// No data version of the commit has this id.
+    UnknownChange,
 }
 
 impl Refusal {
@@ -36,14 +42,17 @@ impl Refusal {
         match self {
             Refusal::UnknownProject => "unknown-project",
             Refusal::UnknownBranch => "unknown-branch",
+            Refusal::UnknownTag => "unknown-tag",
             Refusal::UnknownCommit => "unknown-commit",
             Refusal::HeadMoved { head: _ } => "head-moved",
+            Refusal::DefaultBranch => "default-branch",
             Refusal::MultiplePrevious => "multiple-previous",
             Refusal::IdentityMismatch { place: _ } => "identity-mismatch",
             Refusal::IdentityTwice { place: _ } => "identity-twice",
             Refusal::DeleteUnknown { place: _ } => "delete-unknown",
             Refusal::UnknownPin { place: _ } => "unknown-pin",
             Refusal::UnknownElement => "unknown-element",
+            Refusal::UnknownChange => "unknown-change",
         }
     }
 }

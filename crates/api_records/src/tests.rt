@@ -1,4 +1,4 @@
-use crate::{BodyKind, Branch, Command, Commit, Project, ShapeError, Version};
+use crate::{BodyKind, Branch, Command, Commit, Project, ShapeError, Tag, Version};
 use doc_value::Doc;
 use std::alloc::Global;
 use std::test::Fail;
@@ -8,10 +8,10 @@ use sysapi_base::{Id, Ids, Moment};
 fn asked(alloc: Global, kind: BodyKind, body: &[u8]) -> Result<Result<Command, ShapeError>, Fail> {
     let doc = Doc::read(alloc, body)?;
     let mut ids = Vec::new(alloc);
-    if kind == BodyKind::Commit {
+    if kind != BodyKind::Project {
         ids.push(Id::from_u128(7))?;
     }
-    Ok(Command::from_body(alloc, kind, &doc, &Ids::of(ids)))
+    Ok(Command::from_body(alloc, kind, &doc, &Ids::of(ids), None))
 }
 
 /// Whether this key of the body is wrong.
@@ -106,6 +106,7 @@ fn makes_a_commit(rt: HostRuntime) -> Result<(), Fail> {
     let Ok(
         Command::CreateCommit {
             project,
+            branch,
             previous,
             description,
             changes,
@@ -115,6 +116,7 @@ fn makes_a_commit(rt: HostRuntime) -> Result<(), Fail> {
         return Err(Fail::new("no commit"));
     };
     assert!(rt; project.number() == 7);
+    assert!(rt; branch.is_none());
     assert!(rt; previous.as_slice().len() == 1);
     assert!(rt; matches!(previous.as_slice().first(), Some(id) if id.number() == 11));
     assert!(rt; description.is_none());
@@ -129,6 +131,92 @@ fn makes_a_commit(rt: HostRuntime) -> Result<(), Fail> {
     };
     assert!(rt; stored.identity.is_none());
     assert!(rt; matches!(&stored.payload, Some(payload) if payload.field("name").is_some()));
+    Ok(())
+}
+
+#[test]
+fn names_the_wrong_key_of_an_update(rt: HostRuntime) -> Result<(), Fail> {
+    let alloc = rt.alloc();
+    let kind = BodyKind::ProjectUpdate;
+    assert!(rt;
+        is_wrong(
+            alloc,
+            kind,
+            b"{\"defaultBranch\":1,\"description\":1}",
+            "description"
+        )?
+    );
+    assert!(rt; is_wrong(alloc, kind, b"{\"defaultBranch\":[]}", "defaultBranch")?);
+    let made = asked(
+        alloc,
+        kind,
+        b"{\"defaultBranch\":{\"@id\":\"00000000-0000-0000-0000-00000000000a\"}}",
+    )?;
+    let given = match &made {
+        Ok(
+            Command::UpdateProject {
+                name: None,
+                default_branch: Some(branch),
+                ..
+            },
+        ) => branch.number() == 10,
+        _ => false,
+    };
+    assert!(rt; given);
+    Ok(())
+}
+
+/// `referencedCommit` counts where `head` is absent, and is not looked at where `head` is null.
+#[test]
+fn names_the_wrong_key_of_a_branch(rt: HostRuntime) -> Result<(), Fail> {
+    let alloc = rt.alloc();
+    let kind = BodyKind::Branch;
+    assert!(rt; is_wrong(alloc, kind, b"{\"name\":7}", "name")?);
+    assert!(rt; is_wrong(alloc, kind, b"{\"head\":1}", "head")?);
+    assert!(rt; is_wrong(alloc, kind, b"{\"referencedCommit\":1}", "referencedCommit")?);
+    for body in [
+        b"{\"name\":\"x\"}".as_slice(),
+        b"{\"head\":null,\"name\":\"x\",\"referencedCommit\":1}".as_slice(),
+    ] {
+        let made = asked(alloc, kind, body)?;
+        let named = match &made {
+            Ok(
+                Command::CreateBranch {
+                    name: Some(name),
+                    head: None,
+                    ..
+                },
+            ) => name.as_str() == "x",
+            _ => false,
+        };
+        assert!(rt; named);
+    }
+    Ok(())
+}
+
+/// One of the two keys of a tag's commit has to be there, and null is there.
+#[test]
+fn names_the_wrong_key_of_a_tag(rt: HostRuntime) -> Result<(), Fail> {
+    let alloc = rt.alloc();
+    let kind = BodyKind::Tag;
+    assert!(rt; is_wrong(alloc, kind, b"{}", "taggedCommit")?);
+    assert!(rt;
+        is_wrong(
+            alloc,
+            kind,
+            b"{\"referencedCommit\":null}",
+            "referencedCommit"
+        )?
+    );
+    let both =
+        b"{\"referencedCommit\":{\"@id\":\"00000000-0000-0000-0000-00000000000a\"},\"taggedCommit\":null}";
+    assert!(rt; is_wrong(alloc, kind, both, "taggedCommit")?);
+    let made = asked(
+        alloc,
+        kind,
+        b"{\"referencedCommit\":{\"@id\":\"00000000-0000-0000-0000-00000000000a\"}}",
+    )?;
+    assert!(rt; matches!(&made, Ok(Command::CreateTag { commit, .. }) if commit.number() == 10));
     Ok(())
 }
 
@@ -194,6 +282,18 @@ fn tells_records(rt: HostRuntime) -> Result<(), Fail> {
     assert_eq!(rt;
         text.as_slice(),
         b"{\"@id\":\"00000000-0000-0000-0000-000000000001\",\"@type\":\"Commit\",\"created\":\"1970-01-01T00:00:00.000Z\",\"description\":null,\"owningProject\":{\"@id\":\"00000000-0000-0000-0000-000000000002\"},\"previousCommit\":null}".as_slice()
+    );
+    let tag = Tag {
+        id,
+        project: other,
+        name: None,
+        commit: other,
+        created,
+    };
+    let text = tag.to_doc(alloc)?.write(alloc)?;
+    assert_eq!(rt;
+        text.as_slice(),
+        b"{\"@id\":\"00000000-0000-0000-0000-000000000001\",\"@type\":\"Tag\",\"created\":\"1970-01-01T00:00:00.000Z\",\"name\":null,\"owningProject\":{\"@id\":\"00000000-0000-0000-0000-000000000002\"},\"referencedCommit\":{\"@id\":\"00000000-0000-0000-0000-000000000002\"},\"taggedCommit\":{\"@id\":\"00000000-0000-0000-0000-000000000002\"}}".as_slice()
     );
     let version = Version {
         id,

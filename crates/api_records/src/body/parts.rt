@@ -5,7 +5,7 @@ ghost use Rattle.doc_value.specs.Document.{field_at, members_of};
 ghost use Rattle.doc_value.specs.Reference.{reference};
 ghost use Rattle.doc_value.specs.Seen.{document, documents};
 ghost use Rattle.api_records.specs.declared.body.ShapeError.TheVariants.{BadShape};
-ghost use Rattle.api_records.specs.Bodies.{Shapes, optional_text, reference_or_none, references_or_none, all_references, or_wrong};
+ghost use Rattle.api_records.specs.Bodies.{Shapes, optional_text, reference_or_none, references_or_none, all_references, or_wrong, head_in, tagged_in};
 
 use crate::body::ShapeError;
 use doc_value::Doc;
@@ -43,6 +43,27 @@ pub(crate) fn reference_at_key(
     match doc.field(key) {
         None | Some(Doc::Null) => Ok(None),
         Some(found) => Ok(Some(reference_of(alloc, found, key)?)),
+    }
+}
+
+/// The commit at which a branch begins: that of `head`, and where `head` is absent that of `referencedCommit`.
+pub(crate) fn head_at(alloc: Global, doc: &Doc) -> Result<Option<Id>, ShapeError>
+    ensures { Shapes result (head_in (field_at (codes "head") (document doc.now)) (field_at (codes "referencedCommit") (document doc.now))) }
+{
+    match doc.field("head") {
+        None => reference_at_key(alloc, doc, "referencedCommit"),
+        Some(_) => reference_at_key(alloc, doc, "head"),
+    }
+}
+
+/// The commit of a tag: that of `taggedCommit`, and where this is absent that of `referencedCommit`.
+pub(crate) fn tagged_at(alloc: Global, doc: &Doc) -> Result<Id, ShapeError>
+    ensures { Shapes result (tagged_in (field_at (codes "taggedCommit") (document doc.now)) (field_at (codes "referencedCommit") (document doc.now))) }
+{
+    match (doc.field("taggedCommit"), doc.field("referencedCommit")) {
+        (Some(found), _) => reference_of(alloc, found, "taggedCommit"),
+        (None, Some(found)) => reference_of(alloc, found, "referencedCommit"),
+        (None, None) => Err(bad_shape(alloc, "taggedCommit")?),
     }
 }
 
