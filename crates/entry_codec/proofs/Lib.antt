@@ -1,2 +1,4 @@
+pub mod Drawn
 pub mod Stability
 mod Worked
+mod WorkedBranches

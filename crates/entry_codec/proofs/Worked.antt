@@ -1,12 +1,13 @@
 -- The definitions at worked rows, in repository 1: a project P; a commit on it that sets a datum of a given identity; then further ones.
-use Rattle.std.proofs.Common.{◌≡◌, ℕ, ◌+◌, List, [], ◌∷◌, Some, None, refl, lit<}
-use Rattle.std.specs.Prelude.{codes}
+use Rattle.std.proofs.Common.{◌≡◌, ℕ, ◌+◌, List, [], ◌∷◌, Some, None, refl, ap, ◌∙◌, lit<}
+use Rattle.std.specs.Prelude.{true, false, codes}
 use Rattle.sysapi_base.specs.Id.{id_text}
 use Rattle.doc_value.specs.Document.{text}
 use Rattle.doc_value.specs.declared.doc.Doc.{Doc}
 use Rattle.doc_value.specs.declared.doc.Doc.TheVariants as doc
-use Rattle.api_records.specs.Changes.{free_from}
-use Rattle.api_records.proofs.Serials.{free_from-unknown}
+use Rattle.api_records.specs.Changes.{free_from, known_with}
+use Rattle.sysapi_base.proofs.IdLemmas.{text_back}
+use Rattle.api_records.proofs.Serials.{free_from-unknown, free_from-known}
 use Rattle.api_records.specs.Records.{project_doc, commit_doc}
 use Rattle.api_records.specs.declared.command.Change.{Change}
 use Rattle.api_records.specs.declared.command.Command.{Command}
@@ -18,7 +19,7 @@ use Rattle.entry_codec.specs.declared.call.Call.TheVariants.{Write, Read}
 use Rattle.entry_codec.specs.declared.call.ReadCall.TheVariants.{OneProject, OneElement}
 use Rattle.entry_codec.specs.declared.reply.Reply.TheVariants.{Made, Found, Refused}
 use Rattle.entry_codec.specs.Histories.{tables}
-use Rattle.entry_codec.specs.Refusals.{refusal}
+use Rattle.entry_codec.specs.Refusals.{refusal, differ, is_mismatch}
 use Rattle.entry_codec.specs.Replies.{reply}
 
 -- the id of a serial
@@ -46,7 +47,7 @@ named_p : Command
 named_p = CreateProject (Some (codes "P")) None
 
 commits : List ℕ → List Change → Command
-commits previous changes = CreateCommit 1813397952793980616835072 previous None changes
+commits previous changes = CreateCommit 1813397952793980616835072 None previous None changes
 
 at : Command → Entry
 at command = record { moment = 0; command = command }
@@ -141,3 +142,27 @@ usage_is_refused = refl
 unknown_first : refusal 1 [] (commits (number 4 ∷ number 2 ∷ []) []) ≡ Some UnknownProject
 unfolding commits number
 unknown_first = refl
+
+-- ---- known identities
+
+unknown_at_first : (tables 1 one).known (number 0) given ≡ false
+unfolding one at named_p number given
+unknown_at_first = refl
+
+known_behind_a_commit : (tables 1 two).known (number 0) given ≡ true
+unfolding two one at named_p commits sets part number given
+known_behind_a_commit = refl
+
+-- a serial whose id a change of the same commit names is passed over
+passed_over : free_from 1 (known_with ((tables 1 one).known (number 0)) (record { identity = Some (number 4); payload = None } ∷ [])) 4 ≡ 5
+unfolding one at named_p number
+passed_over = free_from-known 1 _ 4 (lit< tt) refl ∙ free_from-unknown 1 _ 5 (lit< tt) refl
+
+-- ---- identities that differ
+
+other_id : Change
+other_id = record { identity = Some 22685491128062790912553268770669400337; payload = Some (doc.Object ((codes "@id", text (id_text 1813397952793980616835076)) ∷ [])) }
+
+identities_differ : is_mismatch other_id ≡ true
+unfolding other_id
+identities_differ = ap (differ (Some 22685491128062790912553268770669400337)) (text_back 1813397952793980616835076 (lit< tt))

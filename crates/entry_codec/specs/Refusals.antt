@@ -7,11 +7,12 @@ use Rattle.api_records.specs.Sets.{added}
 use Rattle.api_records.specs.Changes.{named, payload_id}
 use Rattle.api_records.specs.declared.command.Change.{Change}
 use Rattle.api_records.specs.declared.command.Command.{Command}
-use Rattle.api_records.specs.declared.command.Command.TheVariants.{CreateProject, CreateCommit}
+use Rattle.api_records.specs.declared.command.Command.TheVariants.{CreateProject, UpdateProject, DeleteProject, CreateCommit, CreateBranch, DeleteBranch, CreateTag, DeleteTag}
 use Rattle.api_records.specs.declared.refusal.Refusal.{Refusal}
 use Rattle.api_records.specs.declared.refusal.Refusal.TheVariants as no
 use Rattle.entry_codec.specs.declared.entry.Entry.{Entry}
-use Rattle.entry_codec.specs.Histories.{Tables, tables, branch_of, head_of, own_at, is_at}
+use Rattle.api_records.specs.declared.record.Project.{Project}
+use Rattle.entry_codec.specs.Histories.{Tables, tables, project_branch, project_tag, project_commit, branch_of, head_of, own_at, is_at}
 
 -- the first row that holds
 abbrev pub first : List (Option Refusal) → Option Refusal
@@ -92,17 +93,66 @@ change_rows own cs =
     ∷ row (λ k. no.UnknownPin k) (position (λ c. is_usage c.payload) cs)
     ∷ []
 
+-- ---- other records
+
+-- what is given has to be there; nothing given is no fault
+abbrev pub if_given : (ℕ → Option Refusal) → Option ℕ → Option Refusal
+if_given row None = None
+if_given row (Some id) = row id
+
+abbrev pub unknown_project : Tables → ℕ → Option Refusal
+unknown_project t p = unless_there no.UnknownProject (t.project p)
+
+abbrev pub unknown_branch : Tables → ℕ → ℕ → Option Refusal
+unknown_branch t p b = unless_there no.UnknownBranch (project_branch t p b)
+
+abbrev pub unknown_tag : Tables → ℕ → ℕ → Option Refusal
+unknown_tag t p x = unless_there no.UnknownTag (project_tag t p x)
+
+abbrev pub unknown_commit : Tables → ℕ → ℕ → Option Refusal
+unknown_commit t p c = unless_there no.UnknownCommit (project_commit t p c)
+
+-- the branch is the project's default one
+abbrev pub is_default : Option Project → ℕ → Bool
+is_default None b = false
+is_default (Some project) b = project.default_branch == b
+
+abbrev pub default_branch : Tables → ℕ → ℕ → Option Refusal
+default_branch t p b = if is_default (t.project p) b then Some no.DefaultBranch else None
+
 -- ---- commands
 
 -- the rows of a command, where the entries so far tell these tables
 abbrev pub rows : Tables → Command → List (Option Refusal)
 rows t (CreateProject name description) = []
-rows t (CreateCommit p previous description changes) =
-    unless_there no.UnknownProject (t.project p)
-    ∷ unless_there no.UnknownBranch (option_and_then t.branch (branch_of t p))
+rows t (UpdateProject p name description branch) =
+    unknown_project t p
+    ∷ if_given (unknown_branch t p) branch
+    ∷ []
+rows t (DeleteProject p) = unknown_project t p ∷ []
+rows t (CreateCommit p given previous description changes) =
+    unknown_project t p
+    ∷ unless_there no.UnknownBranch (option_and_then (project_branch t p) (branch_of t p given))
     ∷ multiple previous
-    ∷ moved (head_of t p) previous
-    ∷ change_rows (own_at t.own (head_of t p)) changes
+    ∷ moved (head_of t p given) previous
+    ∷ change_rows (own_at t.own (head_of t p given)) changes
+rows t (CreateBranch p name head) =
+    unknown_project t p
+    ∷ if_given (unknown_commit t p) head
+    ∷ []
+rows t (DeleteBranch p b) =
+    unknown_project t p
+    ∷ unknown_branch t p b
+    ∷ default_branch t p b
+    ∷ []
+rows t (CreateTag p name c) =
+    unknown_project t p
+    ∷ unknown_commit t p c
+    ∷ []
+rows t (DeleteTag p x) =
+    unknown_project t p
+    ∷ unknown_tag t p x
+    ∷ []
 
 -- the refusal of a command at a history, its newest entry first
 abbrev pub refusal : ℕ → List Entry → Command → Option Refusal
