@@ -16,7 +16,7 @@ use Rattle.api_records.specs.Sets.{has, added}
 same_test : (p q : ℕ → Bool) → ((x : ℕ) → p x ≡ q x) → p ≡ q
 same_test p q h = λ i x. h x i
 
-same_id : (x y : ℕ) → is_eq (nat_cmp x y) ≡ (x == y)
+pub same_id : (x y : ℕ) → is_eq (nat_cmp x y) ≡ (x == y)
 same_id x y = first_of (search rules, grind arith, grind (arith, common_steps))
 
 same_id_turned : (x y : ℕ) → is_eq (nat_cmp x y) ≡ (y == x)

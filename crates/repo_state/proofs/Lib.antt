@@ -1,4 +1,7 @@
 mod Entries
 mod PayloadLemmas
 mod VersionLemmas
+mod ListLemmas
+mod Committed
 mod Steps
+mod Following

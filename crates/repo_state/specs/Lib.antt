@@ -1,3 +1,4 @@
 pub mod Payloads
 pub mod Stands
+pub mod Lists
 pub mod Shown

@@ -1,17 +1,25 @@
 -- Own values that may be stored.
-use Rattle.std.specs.Prelude.{ℕ, ℤ, pos, negsuc, List, IfSome}
+use Rattle.std.specs.Prelude.{ℕ, ℤ, pos, negsuc, List, Option, Some, None, IfSome}
 use Rattle.std.specs.Ordering.{nat_cmp}
 use Rattle.std.specs.FinMap.{find}
 use Rattle.std.proofs.Math.Bridge.{le_prop}
+use Rattle.std.proofs.Props.{props}
 use mathlib.Core.HLevel.{×_prop, Unit-prop}
 use Rattle.doc_value.specs.Document.{Document, null, truth, whole, text, list, object, Members, no_members, member, Fields, no_fields, field, IsInRange, HasRange, MembersHaveRange, FieldsHaveRange}
-use Rattle.doc_value.specs.Seen.{document}
 use Rattle.doc_value.specs.declared.doc.Doc.{Doc}
-use Rattle.api_records.specs.Storable.{IsObject, IsPayload}
+use Rattle.std.specs.List.{All}
+use Rattle.std.specs.declared.sync.Arc.{Arc}
+use Rattle.std.specs.declared.alloc.Global.{Global}
+use Rattle.api_records.specs.Storable.{IsObject, IsStored}
+use Rattle.api_records.specs.declared.record.Version.{Version}
 
--- the value at each id is a payload
-abbrev pub ArePayloads : List (ℕ × Doc) → Type 0
-ArePayloads own = (x : ℕ) → IfSome (find nat_cmp x own) (λ d. IsPayload (document d))
+-- the version at each id has a payload that may be stored, or none
+abbrev pub AreStored : List (ℕ × Version) → Type 0
+AreStored own = (x : ℕ) → IfSome (find nat_cmp x own) (λ v. IsStored v.payload)
+
+-- each version of a list has
+abbrev pub AllStored : List (Arc Version Global) → Type 0
+AllStored vs = All (λ (v : Arc Version Global). IsStored v.value.payload) vs
 
 -- ---- a fact of a struct's field has one proof at most
 
@@ -43,3 +51,7 @@ IsObject-prop (whole z) = λ x y. absurd x
 IsObject-prop (text s) = λ x y. absurd x
 IsObject-prop (list ds) = λ x y. absurd x
 IsObject-prop (object fs) = Unit-prop
+
+pub IsStored-prop : (o : Option Doc) → IsProp (IsStored o)
+IsStored-prop None = Unit-prop
+IsStored-prop (Some d) = Prim.hlevel (IsObject-prop, HasRange-prop, props)

@@ -1,40 +1,67 @@
 -- What a state itself tells, and what a command makes of it. Nothing here speaks of a history.
-use Rattle.std.specs.Prelude.{◌≡◌, ℕ, ◌+◌, ◌==◌, if◌then◌else◌, List, Some, None, Result, Ok, Err, ⊤}
+use Rattle.std.specs.Prelude.{◌≡◌, ℕ, ◌+◌, nat_le, if◌then◌else◌, List, Option, Some, None, Result, Ok, Err, ⊤}
 use Rattle.std.specs.Ordering.{nat_cmp}
 use Rattle.std.specs.FinMap.{find, put}
+use Rattle.timeline.specs.Values.{value_at, changed}
+use Rattle.api_records.specs.Sets.{has, added}
 use Rattle.api_records.specs.Changes.{known_with, versions, last_serial}
 use Rattle.api_records.specs.Records.{commit_doc}
 use Rattle.api_records.specs.declared.command.Change.{Change}
-use Rattle.api_records.specs.declared.record.Branch.{Branch}
 use Rattle.api_records.specs.declared.record.Commit.{Commit}
 use Rattle.api_records.specs.declared.record.Version.{Version}
+use Rattle.api_records.specs.declared.record.Project.{Project}
+use Rattle.api_records.specs.declared.record.Branch.{Branch}
+use Rattle.api_records.specs.declared.record.Tag.{Tag}
 use Rattle.entry_codec.specs.declared.entry.Entry.{Entry}
 use Rattle.entry_codec.specs.declared.reply.Reply.TheVariants.{Made}
-use Rattle.entry_codec.specs.Histories.{Tables, behind, with_head, own_in, own_at, with_identities}
+use Rattle.entry_codec.specs.Histories.{Tables, Event, events_of, next_behind, project_by, branch_by, tag_by, commit_by, versions_by, own_by, ancestry_by, known_by, with_head, own_in, with_identities}
 use Rattle.entry_codec.specs.Refusals.{first, rows}
 use Rattle.entry_codec.specs.Replies.{command_reply}
-use Rattle.repo_state.specs.Stands.{commit_shown, own_shown, known_shown}
+use Rattle.repo_state.specs.Stands.{versions_of, own_of, ancestry_of, commit_shown, versions_shown, own_shown, ancestry_shown, known_shown}
+use Rattle.repo_state.specs.declared.commit.Made.{Made as MadeCommit}
 use Rattle.repo_state.specs.declared.state.State.{State}
+use Rattle.repo_state.specs.declared.data.CommitData.{CommitData}
 use Rattle.repo_state.specs.declared.accept.Accepted.{Accepted}
 use Rattle.repo_state.specs.declared.accept.AcceptError.{AcceptError}
 use Rattle.repo_state.specs.declared.accept.AcceptError.TheVariants.{Refused, Memory}
 
--- the tables of a state
+-- the tables of a state at its front
 abbrev pub shown : State → Tables
 shown s = record {
   next = s.next;
-  project = λ p. find nat_cmp p s.projects;
-  branch = λ b. find nat_cmp b s.branches;
-  commit = λ c. commit_shown (find nat_cmp c s.commits);
-  own = λ c x. own_shown (find nat_cmp c s.commits) x;
+  project = λ p. value_at s.projects p s.front;
+  branch = λ b. value_at s.branches b s.front;
+  tag = λ x. value_at s.tags x s.front;
+  commit = λ c. commit_shown (value_at s.commits c s.front);
+  versions = λ c. versions_shown (value_at s.commits c s.front);
+  own = λ c. own_shown (value_at s.commits c s.front);
+  ancestry = λ c. ancestry_shown (value_at s.commits c s.front);
   known = λ p. known_shown (find nat_cmp p s.known);
 }
 
--- the new state shows what is told behind the entry, and the reply is the entry's
+-- ---- an entry
+
+abbrev pub events_at : State → Entry → List Event
+events_at s e = events_of s.repository (shown s) e.moment e.command
+
+-- from the point n on another value, and below n the old one
+abbrev pub from_on : {A : Type 0} → ℕ → ℕ → (A → A) → A → A
+from_on n m change older = if nat_le n m then change older else older
+
+-- From its front on the new state shows what the entry's events tell upon what was shown; at each point before it shows the same. The
+-- reply is the entry's.
 pub record Follows (s : State) (e : Entry) (a : Accepted) : Type 0 where
   pub same : a.state.repository ≡ s.repository
   pub front : a.state.front ≡ s.front + 1
-  pub tables : shown a.state ≡ behind s.repository (shown s) e
+  pub next : a.state.next ≡ next_behind s.repository (shown s) e.command
+  pub projects : (q m : ℕ) → value_at a.state.projects q m ≡ from_on (s.front + 1) m (project_by (events_at s e) q) (value_at s.projects q m)
+  pub branches : (q m : ℕ) → value_at a.state.branches q m ≡ from_on (s.front + 1) m (branch_by (events_at s e) q) (value_at s.branches q m)
+  pub tags : (q m : ℕ) → value_at a.state.tags q m ≡ from_on (s.front + 1) m (tag_by (events_at s e) q) (value_at s.tags q m)
+  pub commits : (q m : ℕ) → commit_shown (value_at a.state.commits q m) ≡ from_on (s.front + 1) m (commit_by (events_at s e) q) (commit_shown (value_at s.commits q m))
+  pub versions : (q m : ℕ) → versions_shown (value_at a.state.commits q m) ≡ from_on (s.front + 1) m (versions_by (events_at s e) q) (versions_shown (value_at s.commits q m))
+  pub own_values : (q m : ℕ) → own_shown (value_at a.state.commits q m) ≡ from_on (s.front + 1) m (λ older x. own_by (shown s).own (events_at s e) q x (older x)) (own_shown (value_at s.commits q m))
+  pub ancestry : (q m : ℕ) → ancestry_shown (value_at a.state.commits q m) ≡ from_on (s.front + 1) m (ancestry_by (shown s).ancestry (events_at s e) q) (ancestry_shown (value_at s.commits q m))
+  pub known_ids : (p : ℕ) → known_shown (find nat_cmp p a.state.known) ≡ known_by (events_at s e) p (known_shown (find nat_cmp p s.known))
   pub reply : a.reply ≡ command_reply s.repository (shown s) e.moment e.command
 
 -- what a state answers to an entry, by its own tables
@@ -43,20 +70,82 @@ Judges s e (Ok a) = (first (rows (shown s) e.command) ≡ None) × Follows s e a
 Judges s e (Err (Refused why)) = first (rows (shown s) e.command) ≡ Some why
 Judges s e (Err Memory) = ⊤
 
+-- ---- changes of a state that is being made
+
+-- the state at the next point, with this next serial and all else as it was
+pub record IsNext (old new : State) (serial : ℕ) : Type 0 where
+  pub same : new.repository ≡ old.repository
+  pub front : new.front ≡ old.front + 1
+  pub next : new.next ≡ serial
+  pub projects : new.projects ≡ old.projects
+  pub branches : new.branches ≡ old.branches
+  pub tags : new.tags ≡ old.tags
+  pub commits : new.commits ≡ old.commits
+  pub known : new.known ≡ old.known
+
+-- the state's numbers are as they were
+pub record SameNumbers (old new : State) : Type 0 where
+  pub same : new.repository ≡ old.repository
+  pub front : new.front ≡ old.front
+  pub next : new.next ≡ old.next
+
+-- from the front on the project with the id is this one, or none
+pub record SetsProject (old new : State) (id : ℕ) (value : Option Project) : Type 0 where
+  pub numbers : SameNumbers old new
+  pub projects : (q m : ℕ) → value_at new.projects q m ≡ changed (value_at old.projects) id old.front value q m
+  pub branches : new.branches ≡ old.branches
+  pub tags : new.tags ≡ old.tags
+  pub commits : new.commits ≡ old.commits
+  pub known : new.known ≡ old.known
+
+pub record SetsBranch (old new : State) (id : ℕ) (value : Option Branch) : Type 0 where
+  pub numbers : SameNumbers old new
+  pub projects : new.projects ≡ old.projects
+  pub branches : (q m : ℕ) → value_at new.branches q m ≡ changed (value_at old.branches) id old.front value q m
+  pub tags : new.tags ≡ old.tags
+  pub commits : new.commits ≡ old.commits
+  pub known : new.known ≡ old.known
+
+pub record SetsTag (old new : State) (id : ℕ) (value : Option Tag) : Type 0 where
+  pub numbers : SameNumbers old new
+  pub projects : new.projects ≡ old.projects
+  pub branches : new.branches ≡ old.branches
+  pub tags : (q m : ℕ) → value_at new.tags q m ≡ changed (value_at old.tags) id old.front value q m
+  pub commits : new.commits ≡ old.commits
+  pub known : new.known ≡ old.known
+
+-- the commit is there from the front on, and these identities are known in its project
+pub record AddsCommit (old new : State) (made : CommitData) (ids : List ℕ) : Type 0 where
+  pub numbers : SameNumbers old new
+  pub projects : new.projects ≡ old.projects
+  pub branches : new.branches ≡ old.branches
+  pub tags : new.tags ≡ old.tags
+  pub commits : (q m : ℕ) → value_at new.commits q m ≡ changed (value_at old.commits) made.commit.id old.front (Some made) q m
+  pub known : new.known ≡ put nat_cmp made.commit.project ids old.known
+
 -- ---- commits
 
 -- the data versions of a commit
-abbrev pub versions_of : State → Commit → List Change → List Version
-versions_of s c cs = versions s.repository (known_with ((shown s).known c.project) cs) (s.next + 1) cs
+abbrev pub versions_drawn : State → Commit → List Change → List Version
+versions_drawn s c cs = versions s.repository (known_with ((shown s).known c.project) cs) (s.next + 1) cs
 
--- the state behind a commit on the branch with this id, and the reply to it
-pub record IsCommitted (s : State) (c : Commit) (id : ℕ) (branch : Branch) (cs : List Change) (a : Accepted) : Type 0 where
+-- what a commit leaves, where `older` is the commit before it
+pub record IsMade (s : State) (c : Commit) (older : Option CommitData) (cs : List Change) (m : MadeCommit) : Type 0 where
+  pub commit : m.data.commit ≡ c
+  pub versions : versions_of m.data ≡ versions_drawn s c cs
+  pub own_values : own_of m.data ≡ (λ x. own_in (versions_drawn s c cs) x (own_shown older x))
+  pub ancestry : ancestry_of m.data ≡ added c.id (ancestry_shown older)
+  pub identities : has m.identities ≡ with_identities ((shown s).known c.project) (versions_drawn s c cs)
+  pub next : m.next ≡ last_serial s.repository (known_with ((shown s).known c.project) cs) (s.next + 1) cs
+
+-- the state behind such a commit on the branch with this id, and the reply to it
+pub record IsCommitted (s : State) (m : MadeCommit) (id : ℕ) (branch : Branch) (a : Accepted) : Type 0 where
   pub same : a.state.repository ≡ s.repository
   pub front : a.state.front ≡ s.front + 1
-  pub next : a.state.next ≡ last_serial s.repository (known_with ((shown s).known c.project) cs) (s.next + 1) cs
+  pub next : a.state.next ≡ m.next
   pub projects : a.state.projects ≡ s.projects
-  pub branches : a.state.branches ≡ put nat_cmp id (with_head c.id branch) s.branches
-  pub commits : (q : ℕ) → (shown a.state).commit q ≡ (if c.id == q then Some c else (shown s).commit q)
-  pub own_values : (q x : ℕ) → (shown a.state).own q x ≡ (if c.id == q then own_in (versions_of s c cs) x (own_at (shown s).own c.previous x) else (shown s).own q x)
-  pub known_ids : (q : ℕ) → (shown a.state).known q ≡ (if c.project == q then with_identities ((shown s).known c.project) (versions_of s c cs) else (shown s).known q)
-  pub reply : a.reply ≡ Made (commit_doc c)
+  pub tags : a.state.tags ≡ s.tags
+  pub branches : (q n : ℕ) → value_at a.state.branches q n ≡ changed (value_at s.branches) id (s.front + 1) (Some (with_head m.data.commit.id branch)) q n
+  pub commits : (q n : ℕ) → value_at a.state.commits q n ≡ changed (value_at s.commits) m.data.commit.id (s.front + 1) (Some m.data) q n
+  pub known : a.state.known ≡ put nat_cmp m.data.commit.project m.identities s.known
+  pub reply : a.reply ≡ Made (commit_doc m.data.commit)

@@ -1,16 +1,20 @@
--- A state stands for a history: what it shows at each id is what the history tells there.
-use Rattle.std.specs.Prelude.{◌≡◌, ℕ, Bool, false, List, ◌∷◌, length, Option, Some, None, Result, Ok, Err, ⊤}
+-- A state stands for a history: what it shows at each id and point is what the history tells there.
+use Rattle.std.specs.Prelude.{◌≡◌, ℕ, Bool, false, List, [], ◌∷◌, length, map, Option, Some, None, Result, Ok, Err, option_and_then, ⊤}
 use Rattle.std.specs.Ordering.{nat_cmp}
 use Rattle.std.specs.FinMap.{find}
+use Rattle.std.specs.declared.sync.Arc.{Arc}
+use Rattle.std.specs.declared.alloc.Global.{Global}
 use Rattle.doc_value.specs.declared.doc.Doc.{Doc}
+use Rattle.timeline.specs.Values.{value_at}
 use Rattle.api_records.specs.Sets.{has}
 use Rattle.api_records.specs.declared.record.Commit.{Commit}
+use Rattle.api_records.specs.declared.record.Version.{Version}
 use Rattle.entry_codec.specs.declared.entry.Entry.{Entry}
-use Rattle.entry_codec.specs.Histories.{tables}
+use Rattle.entry_codec.specs.Histories.{tables, tables_at}
 use Rattle.entry_codec.specs.Refusals.{refusal}
 use Rattle.entry_codec.specs.Replies.{command_reply}
 use Rattle.repo_state.specs.declared.state.State.{State}
-use Rattle.repo_state.specs.declared.state.CommitData.{CommitData}
+use Rattle.repo_state.specs.declared.data.CommitData.{CommitData}
 use Rattle.repo_state.specs.declared.accept.Accepted.{Accepted}
 use Rattle.repo_state.specs.declared.accept.AcceptError.{AcceptError}
 use Rattle.repo_state.specs.declared.accept.AcceptError.TheVariants.{Refused, Memory}
@@ -22,15 +26,36 @@ repository_of s = s.repository
 abbrev pub front_of : State → ℕ
 front_of s = s.front
 
--- ---- what is shown at an id
+-- ---- what is shown of a commit
+
+abbrev pub commit_of : CommitData → Commit
+commit_of d = d.commit
+
+abbrev pub versions_of : CommitData → List Version
+versions_of d = map (λ (v : Arc Version Global). v.value) d.versions.items
+
+-- the value of a datum is the payload of the version that stored it last
+abbrev pub own_of : CommitData → ℕ → Option Doc
+own_of d x = option_and_then (λ v. v.payload) (find nat_cmp x d.own)
+
+abbrev pub ancestry_of : CommitData → ℕ → Bool
+ancestry_of d = has d.ancestry
 
 abbrev pub commit_shown : Option CommitData → Option Commit
 commit_shown None = None
-commit_shown (Some d) = Some d.commit
+commit_shown (Some d) = Some (commit_of d)
+
+abbrev pub versions_shown : Option CommitData → List Version
+versions_shown None = []
+versions_shown (Some d) = versions_of d
 
 abbrev pub own_shown : Option CommitData → ℕ → Option Doc
 own_shown None x = None
-own_shown (Some d) x = find nat_cmp x d.own
+own_shown (Some d) x = own_of d x
+
+abbrev pub ancestry_shown : Option CommitData → ℕ → Bool
+ancestry_shown None = λ a. false
+ancestry_shown (Some d) = ancestry_of d
 
 abbrev pub known_shown : Option (List ℕ) → ℕ → Bool
 known_shown None = λ x. false
@@ -38,14 +63,18 @@ known_shown (Some ids) = has ids
 
 -- ---- what a state stands for
 
--- the tables of a history, its newest entry first, are what the state shows
+-- The tables of a history, its newest entry first, are what the state shows, at each point m. The next serial and the known identities
+-- are those of the whole history.
 pub record StandsFor (s : State) (past : List Entry) : Type 0 where
   pub front : s.front ≡ length past
   pub next : s.next ≡ (tables s.repository past).next
-  pub projects : (p : ℕ) → find nat_cmp p s.projects ≡ (tables s.repository past).project p
-  pub branches : (b : ℕ) → find nat_cmp b s.branches ≡ (tables s.repository past).branch b
-  pub commits : (c : ℕ) → commit_shown (find nat_cmp c s.commits) ≡ (tables s.repository past).commit c
-  pub own_values : (c x : ℕ) → own_shown (find nat_cmp c s.commits) x ≡ (tables s.repository past).own c x
+  pub projects : (p m : ℕ) → value_at s.projects p m ≡ (tables_at s.repository m past).project p
+  pub branches : (b m : ℕ) → value_at s.branches b m ≡ (tables_at s.repository m past).branch b
+  pub tags : (x m : ℕ) → value_at s.tags x m ≡ (tables_at s.repository m past).tag x
+  pub commits : (c m : ℕ) → commit_shown (value_at s.commits c m) ≡ (tables_at s.repository m past).commit c
+  pub versions : (c m : ℕ) → versions_shown (value_at s.commits c m) ≡ (tables_at s.repository m past).versions c
+  pub own_values : (c m : ℕ) → own_shown (value_at s.commits c m) ≡ (tables_at s.repository m past).own c
+  pub ancestry : (c m : ℕ) → ancestry_shown (value_at s.commits c m) ≡ (tables_at s.repository m past).ancestry c
   pub known_ids : (p : ℕ) → known_shown (find nat_cmp p s.known) ≡ (tables s.repository past).known p
 
 -- the entry has no refusal; the new state stands for the history and the entry, and the reply is the one that is defined

@@ -56,12 +56,42 @@ impl State {
             Command::CreateProject { name, description } => {
                 Ok(self.create_project(alloc, moment, name, description)?)
             }
+            Command::UpdateProject {
+                project,
+                name,
+                description,
+                default_branch,
+            } => self.update_project(alloc, moment, *project, name, description, *default_branch),
+            Command::DeleteProject { project } => self.delete_project(alloc, moment, *project),
             Command::CreateCommit {
                 project,
+                branch,
                 previous,
                 description,
                 changes,
-            } => self.create_commit(alloc, moment, *project, previous, description, changes),
+            } => self.create_commit(
+                alloc,
+                moment,
+                *project,
+                *branch,
+                previous,
+                description,
+                changes,
+            ),
+            Command::CreateBranch {
+                project,
+                name,
+                head,
+            } => self.create_branch(alloc, moment, *project, name, *head),
+            Command::DeleteBranch { project, branch } => {
+                self.delete_branch(alloc, moment, *project, *branch)
+            }
+            Command::CreateTag {
+                project,
+                name,
+                commit,
+            } => self.create_tag(alloc, moment, *project, name, *commit),
+            Command::DeleteTag { project, tag } => self.delete_tag(alloc, moment, *project, *tag),
         }
     }
 }

@@ -5,8 +5,8 @@ ghost use Rattle.api_records.specs.Changes.{named, payload_id};
 ghost use Rattle.entry_codec.specs.Refusals.{first, multiple, moved, is_mismatch, twice, deletes_unknown, is_usage, change_rows};
 ghost use Rattle.repo_state.specs.Stands.{own_shown};
 
+use crate::data::CommitData;
 use crate::id_set::IdSet;
-use crate::state::CommitData;
 use api_records::{Change, Refusal};
 use doc_value::Doc;
 use std::alloc::Global;
@@ -64,7 +64,7 @@ fn own_at<'a>(commit: Option<&'a CommitData>, id: Id) -> Option<&'a Doc>
     ensures { option_map (λ d. d.now) result ≡ own_shown (option_map (λ c. c.now) commit.entry) id }
 {
     match commit {
-        Some(commit) => commit.own.find(&id),
+        Some(commit) => commit.own(id),
         None => None,
     }
 }

@@ -1,23 +1,34 @@
-ghost use Rattle.std.specs.Prelude.{◌≡◌, ◌<◌, ◌^◌, length, IfOk, option_map};
+//! Commits are made.
+
+ghost use Rattle.std.specs.Prelude.{◌≡◌, ◌<◌, ◌^◌, length, Some, IfOk, option_map};
 ghost use Rattle.std.specs.List.{All};
-ghost use Rattle.sysapi_base.specs.Id.{made_id};
-ghost use Rattle.api_records.specs.Storable.{IsStored, IsStorable};
-ghost use Rattle.entry_codec.specs.Histories.{with_head, own_at};
+ghost use Rattle.api_records.specs.Sets.{has, added};
+ghost use Rattle.api_records.specs.Storable.{IsStored};
+ghost use Rattle.entry_codec.specs.Histories.{with_head, own_at, ancestry_at};
 ghost use Rattle.entry_codec.specs.Replies.{IsSoundReply};
-ghost use Rattle.repo_state.specs.Stands.{own_shown};
-ghost use Rattle.repo_state.specs.Shown.{shown, Judges, IsCommitted};
+ghost use Rattle.repo_state.specs.Stands.{own_shown, ancestry_shown};
+ghost use Rattle.repo_state.specs.Shown.{shown, Judges, IsMade, IsCommitted};
 
 use crate::accept::{AcceptError, Accepted};
 use crate::check::commit_refusal;
+use crate::data::CommitData;
+use crate::id_set::IdSet;
 use crate::number::{LAST_SERIAL, known_with, versions, with_identities};
 use crate::own::own_values;
 use crate::project::copy_optional;
-use crate::state::{CommitData, State};
+use crate::state::State;
 use api_records::{Branch, Change, Changes, Command, Commit, Refusal};
 use entry_codec::Reply;
 use std::alloc::Global;
-use std::sync::Arc;
 use sysapi_base::{Id, Ids, Memory, Moment, Text};
+
+/// What a commit leaves: itself, the identities known in its project, and the next serial.
+#[derive(Drop)]
+pub(crate) struct Made {
+    pub(crate) data: CommitData,
+    pub(crate) identities: IdSet,
+    pub(crate) next: u64,
+}
 
 /// The branch with another head.
 fn with_head(alloc: Global, branch: &Branch, head: Id) -> Result<Branch, Memory>
@@ -32,23 +43,38 @@ fn with_head(alloc: Global, branch: &Branch, head: Id) -> Result<Branch, Memory>
     })
 }
 
+/// The ancestry of a commit, whose previous one is `older`.
+fn ancestry(alloc: Global, older: Option<&CommitData>, id: Id) -> Result<IdSet, Memory>
+    ensures { IfOk result (λ s. has s ≡ added id (ancestry_shown (option_map (λ d. d.now) older.entry))) }
+{
+    let mut ancestry = match older {
+        Some(older) => older.ancestry.share()?,
+        None => IdSet::new(),
+    };
+    ancestry.add(alloc, id)?;
+    Ok(ancestry)
+}
+
 impl State {
     /// The commit at a head, if there is one.
     fn at_head(&self, head: Option<Id>) -> Option<&CommitData>
-        ensures { own_shown (option_map (λ d. d.now) result) ≡ own_at (shown self.now).own head }
+        ensures own_values { own_shown (option_map (λ d. d.now) result) ≡ own_at (shown self.now).own head }
+        ensures ancestry { ancestry_shown (option_map (λ d. d.now) result) ≡ ancestry_at (shown self.now).ancestry head }
     {
         match head {
-            Some(id) => self.commits.find(&id),
+            Some(id) => self.commits.at(id, self.front),
             None => None,
         }
     }
 
-    /// The state with a new commit on its project's default branch, and the reply; or why it is refused.
+    /// The state with a new commit on a branch of its project, and the reply; or why it is refused. Without a branch the project's
+    /// default one is meant.
     pub(crate) fn create_commit(
         &self,
         alloc: Global,
         moment: Moment,
         project: Id,
+        branch: Option<Id>,
         previous: &Ids,
         description: &Option<Text>,
         changes: &Changes,
@@ -56,20 +82,20 @@ impl State {
         requires front { self.now.front < 2 ^ 60 }
         requires stored { All (λ c. IsStored c.payload) changes.now }
         requires few { length changes.now < 2 ^ 32 }
-        ensures judged { Judges self.now (record { moment = moment; command = Command.CreateCommit project previous.now description.now changes.now }) result }
+        ensures judged { Judges self.now (record { moment = moment; command = Command.CreateCommit project branch previous.now description.now changes.now }) result }
         ensures sound { IfOk result (λ a. IsSoundReply a.reply) }
     {
-        let Some(found) = self.projects.find(&project) else {
+        let Some(owner) = self.projects.at(project, self.front) else {
             return Err(AcceptError::Refused(Refusal::UnknownProject));
         };
-        let Some(branch) = self.branches.find(&found.default_branch) else {
+        let branch_id = branch.unwrap_or(owner.default_branch);
+        let Some(found) = self.project_branch(project, branch_id) else {
             return Err(AcceptError::Refused(Refusal::UnknownBranch));
         };
-        let head = branch.head;
-        let older = self.at_head(head);
+        let older = self.at_head(found.head);
         if let Some(refusal) = commit_refusal(
             alloc,
-            head,
+            found.head,
             older,
             previous.as_slice(),
             changes.as_slice(),
@@ -83,57 +109,67 @@ impl State {
             id: Id::made(self.repository, self.next),
             project,
             description: copy_optional(alloc, description)?,
-            previous: head,
+            previous: found.head,
             created: moment,
         };
-        Ok(self.with_commit(
-            alloc,
-            commit,
-            found.default_branch,
-            branch,
-            changes.as_slice(),
-        )?)
+        let made = self.make(alloc, commit, older, changes.as_slice())?;
+        Ok(self.with_commit(alloc, made, branch_id, found)?)
+    }
+
+    /// A commit with what its changes store upon the commit before it.
+    fn make(
+        &self,
+        alloc: Global,
+        commit: Commit,
+        older: Option<&CommitData>,
+        changes: &[Change],
+    ) -> Result<Made, Memory>
+        requires next { self.now.next < 2 ^ 62 }
+        requires stored { All (λ c. IsStored c.payload) changes.now }
+        ensures { IfOk result (λ m. IsMade self.now commit (option_map (λ d. d.now) older.entry) changes.now m) }
+    {
+        let known = self.known.find(&commit.project);
+        let named = known_with(alloc, known, changes)?;
+        let drawn = versions(alloc, self.repository, &named, self.next + 1, changes)?;
+        let identities = with_identities(alloc, known, drawn.made.as_slice())?;
+        let own = own_values(alloc, older, drawn.made.as_slice())?;
+        let ancestry = ancestry(alloc, older, commit.id)?;
+        Ok(Made {
+            data: CommitData {
+                commit,
+                versions: drawn.made,
+                own,
+                ancestry,
+            },
+            identities,
+            next: drawn.next,
+        })
     }
 
     /// The state with a commit as the head of the branch with this id, and the reply.
     fn with_commit(
         &self,
         alloc: Global,
-        commit: Commit,
+        made: Made,
         branch_id: Id,
         branch: &Branch,
-        changes: &[Change],
     ) -> Result<Accepted, Memory>
-        requires front { self.now.front < 2 ^ 60 }
-        requires next { self.now.next < 2 ^ 62 }
-        requires stored { All (λ c. IsStored c.payload) changes.now }
-        ensures committed { IfOk result (λ a. IsCommitted self.now commit branch_id branch.now changes.now a) }
+        requires { self.now.front < 2 ^ 60 }
+        ensures committed { IfOk result (λ a. IsCommitted self.now made branch_id branch.now a) }
         ensures sound { IfOk result (λ a. IsSoundReply a.reply) }
     {
-        let known = self.known.find(&commit.project);
-        let named = known_with(alloc, known, changes)?;
-        let drawn = versions(alloc, self.repository, &named, self.next + 1, changes)?;
-        let identities = with_identities(alloc, known, drawn.made.as_slice())?;
-        let branch = with_head(alloc, branch, commit.id)?;
-        let reply = commit.to_doc(alloc)?;
-        let id = commit.id;
-        let project = commit.project;
-        let own = own_values(alloc, self.at_head(commit.previous), drawn.made)?;
-        let data = CommitData { commit, own };
+        let Made {
+            data,
+            identities,
+            next,
+        } = made;
+        let reply = data.record().to_doc(alloc)?;
+        let branch = with_head(alloc, branch, data.record().id)?;
+        let mut state = self.at_next(next)?;
+        state.add_commit(alloc, data, identities)?;
+        state.set_branch(alloc, branch_id, Some(branch))?;
         Ok(Accepted {
-            state: State {
-                repository: self.repository,
-                front: self.front + 1,
-                next: drawn.next,
-                projects: self.projects.share()?,
-                branches: self
-                    .branches
-                    .insert(alloc, branch_id, Arc::new(alloc, branch)?)?,
-                commits: self.commits.insert(alloc, id, Arc::new(alloc, data)?)?,
-                known: self
-                    .known
-                    .insert(alloc, project, Arc::new(alloc, identities)?)?,
-            },
+            state,
             reply: Reply::Made(reply),
         })
     }

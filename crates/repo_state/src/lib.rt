@@ -2,13 +2,21 @@
 #![tactic(auto)]
 
 mod accept;
+mod branch;
 mod check;
 mod commit;
+mod data;
 mod id_set;
+mod list;
 mod number;
 mod own;
 mod project;
+mod read;
+mod row;
 mod state;
+mod tag;
 
 pub use accept::{AcceptError, Accepted};
+pub use data::CommitData;
+pub use list::Kind;
 pub use state::State;

@@ -1,12 +1,13 @@
 //! The serials that changes draw, and the data versions that they make.
 
-ghost use Rattle.std.specs.Prelude.{◌≡◌, ◌<◌, ◌-◌, ◌^◌, IfOk, option_map};
+ghost use Rattle.std.specs.Prelude.{◌≡◌, ◌<◌, ◌-◌, ◌^◌, map, IfOk, option_map};
 ghost use Rattle.std.specs.List.{All};
 ghost use Rattle.doc_value.specs.Seen.{document};
 ghost use Rattle.api_records.specs.Sets.{has};
 ghost use Rattle.api_records.specs.Changes.{named, with_id, free_from, identity_at, serial_behind, version, versions, last_serial, known_with};
 ghost use Rattle.api_records.specs.Storable.{IsPayload, IsStored};
 ghost use Rattle.entry_codec.specs.Histories.{with_identities};
+ghost use Rattle.repo_state.specs.Payloads.{AllStored};
 ghost use Rattle.repo_state.specs.Stands.{known_shown};
 
 use crate::check::named;
@@ -14,6 +15,7 @@ use crate::id_set::IdSet;
 use api_records::{Change, Version};
 use doc_value::Doc;
 use std::alloc::Global;
+use std::sync::Arc;
 use sysapi_base::{Id, Memory, Text};
 
 /// Serials stay below this one, with room for those of the last command. Want of memory is answered in place of it.
@@ -133,18 +135,18 @@ pub(crate) fn versions(
     known: &IdSet,
     from: u64,
     changes: &[Change],
-) -> Result<Drawn<Vec<Version>>, Memory>
+) -> Result<Drawn<Vec<Arc<Version>>>, Memory>
     requires repository { repository < 2 ^ 48 }
     requires storable { All (λ c. IsStored c.payload) changes.now }
-    ensures versions { IfOk result (λ d. d.made.items ≡ versions repository (has known.now) from changes.now) }
+    ensures versions { IfOk result (λ d. map (λ v. v.value) d.made.items ≡ versions repository (has known.now) from changes.now) }
     ensures next { IfOk result (λ d. d.next ≡ last_serial repository (has known.now) from changes.now) }
-    ensures stored { IfOk result (λ d. All (λ v. IsStored v.payload) d.made.items) }
+    ensures stored { IfOk result (λ d. AllStored d.made.items) }
 {
     let mut made = Vec::with_capacity(alloc, changes.len())?;
     let mut next = from;
     for change in changes {
         let drawn = version(alloc, repository, known, next, change)?;
-        made.push(drawn.made)?;
+        made.push(Arc::new(alloc, drawn.made)?)?;
         next = drawn.next;
     }
     Ok(Drawn { made, next })
@@ -181,9 +183,9 @@ pub(crate) fn known_with(
 pub(crate) fn with_identities(
     alloc: Global,
     known: Option<&IdSet>,
-    versions: &[Version],
+    versions: &[Arc<Version>],
 ) -> Result<IdSet, Memory>
-    ensures { IfOk result (λ s. has s ≡ with_identities (known_shown (option_map (λ k. k.now) known.entry)) versions.now) }
+    ensures { IfOk result (λ s. has s ≡ with_identities (known_shown (option_map (λ k. k.now) known.entry)) (map (λ v. v.value) versions.now)) }
 {
     let mut set = known_in(known)?;
     for version in versions {

@@ -1,26 +1,24 @@
 //! The values of data at a commit.
 
-ghost use Rattle.std.specs.Prelude.{◌≡◌, ℕ, ◌==◌, if◌then◌else◌, IfOk, OnOk, option_map};
-ghost use Rattle.std.specs.List.{All};
+ghost use Rattle.std.specs.Prelude.{◌≡◌, ℕ, ◌==◌, if◌then◌else◌, map, IfOk, option_map, option_and_then};
 ghost use Rattle.std.specs.Ordering.{nat_cmp};
 ghost use Rattle.std.specs.FinMap.{find};
 ghost use Rattle.api_records.specs.Storable.{IsStored};
 ghost use Rattle.entry_codec.specs.Histories.{own_in};
-ghost use Rattle.repo_state.specs.Payloads.{ArePayloads};
+ghost use Rattle.repo_state.specs.Payloads.{AreStored, AllStored};
 ghost use Rattle.repo_state.specs.Stands.{own_shown};
 
-use crate::state::CommitData;
+use crate::data::CommitData;
 use api_records::Version;
-use doc_value::Doc;
 use pmap::PMap;
 use std::alloc::Global;
 use std::sync::Arc;
 use sysapi_base::{Id, Memory};
 
-/// The values at a commit, none where there is no commit.
-fn own_of(older: Option<&CommitData>) -> Result<PMap<Id, Doc>, Memory>
-    ensures value { IfOk result (λ d. (x : ℕ) → find nat_cmp x d ≡ own_shown (option_map (λ c. c.now) older.entry) x) }
-    ensures payloads { IfOk result (λ d. ArePayloads d) }
+/// The versions at a commit, none where there is no commit.
+fn own_of(older: Option<&CommitData>) -> Result<PMap<Id, Version>, Memory>
+    ensures value { IfOk result (λ own. (x : ℕ) → option_and_then (λ v. v.payload) (find nat_cmp x own) ≡ own_shown (option_map (λ d. d.now) older.entry) x) }
+    ensures stored { IfOk result AreStored }
 {
     match older {
         Some(older) => older.own.share(),
@@ -28,45 +26,37 @@ fn own_of(older: Option<&CommitData>) -> Result<PMap<Id, Doc>, Memory>
     }
 }
 
-/// Stores what a version has for its datum.
-fn store(alloc: Global, own: &mut PMap<Id, Doc>, version: Version) -> Result<(), Memory>
-    requires stored { IsStored version.payload }
-    requires payloads { ArePayloads own.now }
-    ensures value { OnOk result ((x : ℕ) → find nat_cmp x own.new ≡ (if version.identity == x then version.payload else find nat_cmp x own.old)) }
-    ensures payloads { OnOk result (ArePayloads own.new) }
+/// The versions in which this one stands for its datum. One without a payload takes the older one out.
+fn store(
+    alloc: Global,
+    own: &PMap<Id, Version>,
+    version: &Arc<Version>,
+) -> Result<PMap<Id, Version>, Memory>
+    requires version { IsStored version.now.value.payload }
+    requires own { AreStored own.now }
+    ensures value { IfOk result (λ new. (x : ℕ) → option_and_then (λ v. v.payload) (find nat_cmp x new) ≡ (if version.now.value.identity == x then version.now.value.payload else option_and_then (λ v. v.payload) (find nat_cmp x own.now))) }
+    ensures stored { IfOk result AreStored }
 {
-    let Version {
-        id: _,
-        identity,
-        payload,
-    } = version;
-    match payload {
-        Some(payload) => {
-            let with = own.insert(alloc, identity, Arc::new(alloc, payload)?)?;
-            *own = with;
-            Ok(())
-        }
-        None => {
-            let without = own.remove(alloc, &identity)?;
-            *own = without;
-            Ok(())
-        }
+    if version.payload.is_some() {
+        own.insert(alloc, version.identity, Arc::try_clone(version)?)
+    } else {
+        own.remove(alloc, &version.identity)
     }
 }
 
-/// The values at a commit with these versions, where `older` is the commit before it.
+/// The versions at a commit that stores these, where `older` is the commit before it.
 pub(crate) fn own_values(
     alloc: Global,
     older: Option<&CommitData>,
-    versions: Vec<Version>,
-) -> Result<PMap<Id, Doc>, Memory>
-    requires { All (λ v. IsStored v.payload) versions.items }
-    ensures value { IfOk result (λ t. (x : ℕ) → find nat_cmp x t ≡ own_in versions.items x (own_shown (option_map (λ c. c.now) older.entry) x)) }
-    ensures payloads { IfOk result (λ t. ArePayloads t) }
+    versions: &[Arc<Version>],
+) -> Result<PMap<Id, Version>, Memory>
+    requires { AllStored versions.now }
+    ensures value { IfOk result (λ own. (x : ℕ) → option_and_then (λ v. v.payload) (find nat_cmp x own) ≡ own_in (map (λ v. v.value) versions.now) x (own_shown (option_map (λ d. d.now) older.entry) x)) }
+    ensures stored { IfOk result AreStored }
 {
     let mut own = own_of(older)?;
     for version in versions {
-        store(alloc, &mut own, version)?;
+        own = store(alloc, &own, version)?;
     }
     Ok(own)
 }

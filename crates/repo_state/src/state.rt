@@ -1,42 +1,38 @@
-ghost use Rattle.std.specs.Prelude.{◌<◌, ◌^◌};
-ghost use Rattle.std.proofs.Props.{props};
-ghost use Rattle.repo_state.specs.Payloads.{ArePayloads, HasRange-prop, IsObject-prop};
+ghost use Rattle.std.specs.Prelude.{◌≡◌, ◌<◌, ◌≤◌, ◌^◌, ℕ, IfOk};
+ghost use Rattle.timeline.specs.Values.{value_at, changed, last_point};
 
+use crate::data::CommitData;
 use crate::id_set::IdSet;
-use api_records::{Branch, Commit, Project};
-use doc_value::Doc;
+use api_records::{Branch, Project, Tag};
 use pmap::PMap;
 use std::alloc::Global;
+use std::sync::Arc;
 use sysapi_base::{Id, Memory};
+use timeline::Timeline;
 
-/// A commit, and the value of each datum at it.
-#[derive(Drop)]
-pub(crate) struct CommitData {
-    pub(crate) commit: Commit,
-    pub(crate) own: PMap<Id, Doc>,
-    ghost payloads: { ArePayloads own } by { Prim.hlevel (IsObject-prop, HasRange-prop, props) },
-}
-
-/// What the commands accepted so far have made. Its copies share all of it, and a command makes a new state and leaves the old one.
+/// What the commands accepted so far have made, at each point of their history. Its copies share all of it, and a command makes a new
+/// state and leaves the old one.
 #[derive(Drop)]
 pub struct State {
     pub(crate) repository: u64,
     pub(crate) front: u64,
     pub(crate) next: u64,
-    pub(crate) projects: PMap<Id, Project>,
-    pub(crate) branches: PMap<Id, Branch>,
-    pub(crate) commits: PMap<Id, CommitData>,
+    pub(crate) projects: Timeline<Project>,
+    pub(crate) branches: Timeline<Branch>,
+    pub(crate) tags: Timeline<Tag>,
+    pub(crate) commits: Timeline<CommitData>,
     pub(crate) known: PMap<Id, IdSet>,
     ghost in_range: { repository < 2 ^ 48 },
+    ghost projects_before: { last_point projects ≤ front },
+    ghost branches_before: { last_point branches ≤ front },
+    ghost tags_before: { last_point tags ≤ front },
+    ghost commits_before: { last_point commits ≤ front },
 }
 
 impl State {
-    ghost use Rattle.std.specs.Prelude.{◌≡◌, [], List, IfOk, IfSome, option_map};
-    ghost use Rattle.doc_value.specs.Document.{IsSound};
-    ghost use Rattle.doc_value.specs.Seen.{document};
-    ghost use Rattle.entry_codec.specs.Histories.{tables};
-    ghost use Rattle.entry_codec.specs.declared.entry.Entry.{Entry};
+    ghost use Rattle.std.specs.Prelude.{◌≡◌, [], IfOk, OnOk};
     ghost use Rattle.repo_state.specs.Stands.{StandsFor, repository_of, front_of};
+    ghost use Rattle.repo_state.specs.Shown.{IsNext, SetsProject, SetsBranch, SetsTag, AddsCommit};
 
     /// The state of a repository without entries.
     pub fn start(alloc: Global, repository: u64) -> State
@@ -48,9 +44,10 @@ impl State {
             repository,
             front: 0,
             next: 0,
-            projects: PMap::new(),
-            branches: PMap::new(),
-            commits: PMap::new(),
+            projects: Timeline::new(),
+            branches: Timeline::new(),
+            tags: Timeline::new(),
+            commits: Timeline::new(),
             known: PMap::new(),
         }
     }
@@ -80,36 +77,96 @@ impl State {
             next: self.next,
             projects: self.projects.share()?,
             branches: self.branches.share()?,
+            tags: self.tags.share()?,
             commits: self.commits.share()?,
             known: self.known.share()?,
         })
     }
 
-    /// The project with this id.
-    pub fn project(&self, id: Id) -> Option<&Project>
-        ensures { (past : List Entry) → StandsFor self.now past → option_map (λ p. p.now) result ≡ (tables (repository_of self.now) past).project id }
+    /// The state at the next point with this next serial, in which all else is as it was.
+    pub(crate) fn at_next(&self, next: u64) -> Result<State, Memory>
+        requires { self.now.front < 2 ^ 60 }
+        ensures { IfOk result (λ s. IsNext self.now s next) }
     {
-        self.projects.find(&id)
+        Ok(State {
+            repository: self.repository,
+            front: self.front + 1,
+            next,
+            projects: self.projects.share()?,
+            branches: self.branches.share()?,
+            tags: self.tags.share()?,
+            commits: self.commits.share()?,
+            known: self.known.share()?,
+        })
     }
 
-    /// The commit with this id.
-    pub fn commit(&self, id: Id) -> Option<&Commit>
-        ensures { (past : List Entry) → StandsFor self.now past → option_map (λ c. c.now) result ≡ (tables (repository_of self.now) past).commit id }
+    /// From the front on the project with this id is this one, or none.
+    pub(crate) fn set_project(
+        &mut self,
+        alloc: Global,
+        id: Id,
+        project: Option<Project>,
+    ) -> Result<(), Memory>
+        ensures { OnOk result (SetsProject self.old self.new id project) }
     {
-        match self.commits.find(&id) {
-            Some(found) => Some(&found.commit),
-            None => None,
-        }
+        self.projects = changed(alloc, &self.projects, id, self.front, project)?;
+        Ok(())
     }
 
-    /// The value of the datum with this identity at a commit, as it is stored.
-    pub fn own(&self, commit: Id, id: Id) -> Option<&Doc>
-        ensures value { (past : List Entry) → StandsFor self.now past → option_map (λ d. d.now) result ≡ (tables (repository_of self.now) past).own commit id }
-        ensures sound { IfSome result (λ d. IsSound (document d.now)) }
+    /// From the front on the branch with this id is this one, or none.
+    pub(crate) fn set_branch(
+        &mut self,
+        alloc: Global,
+        id: Id,
+        branch: Option<Branch>,
+    ) -> Result<(), Memory>
+        ensures { OnOk result (SetsBranch self.old self.new id branch) }
     {
-        match self.commits.find(&commit) {
-            Some(found) => found.own.find(&id),
-            None => None,
-        }
+        self.branches = changed(alloc, &self.branches, id, self.front, branch)?;
+        Ok(())
+    }
+
+    /// From the front on the tag with this id is this one, or none.
+    pub(crate) fn set_tag(&mut self, alloc: Global, id: Id, tag: Option<Tag>) -> Result<(), Memory>
+        ensures { OnOk result (SetsTag self.old self.new id tag) }
+    {
+        self.tags = changed(alloc, &self.tags, id, self.front, tag)?;
+        Ok(())
+    }
+
+    /// From the front on the commit is there, and these identities are known in its project.
+    pub(crate) fn add_commit(
+        &mut self,
+        alloc: Global,
+        made: CommitData,
+        identities: IdSet,
+    ) -> Result<(), Memory>
+        ensures { OnOk result (AddsCommit self.old self.new made identities) }
+    {
+        let id = made.record().id;
+        let project = made.record().project;
+        self.commits = changed(alloc, &self.commits, id, self.front, Some(made))?;
+        let identities = Arc::new(alloc, identities)?;
+        let known = self.known.insert(alloc, project, identities)?;
+        self.known = known;
+        Ok(())
+    }
+}
+
+/// The timeline in which the id has this value, or none, from the point on.
+fn changed<T: Drop>(
+    alloc: Global,
+    timeline: &Timeline<T>,
+    id: Id,
+    point: u64,
+    value: Option<T>,
+) -> Result<Timeline<T>, Memory>
+    requires { last_point timeline.now ≤ point }
+    ensures values { IfOk result (λ t. (q m : ℕ) → value_at t q m ≡ changed (value_at timeline.now) id point value q m) }
+    ensures last { IfOk result (λ t. last_point t ≡ point) }
+{
+    match value {
+        Some(value) => timeline.set_at(alloc, id, point, Arc::new(alloc, value)?),
+        None => timeline.end_at(alloc, id, point),
     }
 }
