@@ -1,10 +1,13 @@
 //! Replies to look-ups.
 #![tactic(auto)]
 
-mod element;
+mod list;
+mod listing;
+mod one;
 mod reading;
+mod record;
 
-pub use reading::answer;
+pub use reading::{answer, answer_at};
 
 #[cfg(test)]
 mod tests;

@@ -1,61 +1,48 @@
 ghost use Rattle.std.specs.Prelude.{◌≡◌, List, IfOk};
 ghost use Rattle.entry_codec.specs.declared.entry.Entry.{Entry};
-ghost use Rattle.entry_codec.specs.declared.call.ReadCall.TheVariants as call;
-ghost use Rattle.entry_codec.specs.Replies.{IsSoundReply, read_reply};
+ghost use Rattle.entry_codec.specs.Replies.{IsSoundReply, read_reply, reply_at};
 ghost use Rattle.repo_state.specs.Stands.{StandsFor, repository_of};
 
-use crate::element::{commit_refusal, element_at};
-use api_records::Refusal;
+use crate::list::{branches, commits, projects, tags, versions};
+use crate::one::{one_branch, one_commit, one_element, one_project, one_tag, one_version};
 use entry_codec::{ReadCall, Reply};
 use repo_state::State;
 use std::alloc::Global;
-use sysapi_base::{Id, Memory};
+use sysapi_base::Memory;
 
-/// The reply to a look-up in a state. The record or element that is told is copied once. The only error is want of memory.
+/// The reply to a look-up at the front of a state. The only error is want of memory.
 pub fn answer(alloc: Global, view: &State, call: &ReadCall) -> Result<Reply, Memory>
     ensures reply { (past : List Entry) → StandsFor view.now past → IfOk result (λ a. a ≡ read_reply (repository_of view.now) past call.now) }
     ensures sound { IfOk result IsSoundReply }
 {
-    match call {
-        ReadCall::OneProject { project } => one_project(alloc, view, *project),
+    answer_at(alloc, view, view.front(), call)
+}
+
+/// The reply to a look-up at a point, which is that at the front for each point from there on. What is told is copied once. The only
+/// error is want of memory.
+pub fn answer_at(alloc: Global, view: &State, point: u64, call: &ReadCall) -> Result<Reply, Memory>
+    ensures reply { (past : List Entry) → StandsFor view.now past → IfOk result (λ a. a ≡ reply_at (repository_of view.now) point past call.now) }
+    ensures sound { IfOk result IsSoundReply }
+{
+    match *call {
+        ReadCall::Projects => projects(alloc, view, point),
+        ReadCall::OneProject { project } => one_project(alloc, view, point, project),
+        ReadCall::Branches { project } => branches(alloc, view, point, project),
+        ReadCall::OneBranch { project, id } => one_branch(alloc, view, point, project, id),
+        ReadCall::Tags { project } => tags(alloc, view, point, project),
+        ReadCall::OneTag { project, id } => one_tag(alloc, view, point, project, id),
+        ReadCall::Commits { project, branch } => commits(alloc, view, point, project, branch),
+        ReadCall::OneCommit { project, commit } => one_commit(alloc, view, point, project, commit),
+        ReadCall::Versions { project, commit } => versions(alloc, view, point, project, commit),
+        ReadCall::OneVersion {
+            project,
+            commit,
+            id,
+        } => one_version(alloc, view, point, project, commit, id),
         ReadCall::OneElement {
             project,
             commit,
             id,
-        } => one_element(alloc, view, *project, *commit, *id),
-    }
-}
-
-/// The project with this id.
-fn one_project(alloc: Global, view: &State, project: Id) -> Result<Reply, Memory>
-    ensures reply { (past : List Entry) → StandsFor view.now past → IfOk result (λ a. a ≡ read_reply (repository_of view.now) past (call.OneProject project)) }
-    ensures sound { IfOk result IsSoundReply }
-{
-    match view.project(project) {
-        Some(project) => Ok(Reply::Found(project.to_doc(alloc)?)),
-        None => Ok(Reply::Refused(Refusal::UnknownProject)),
-    }
-}
-
-/// The element with this id at a commit of the project.
-fn one_element(
-    alloc: Global,
-    view: &State,
-    project: Id,
-    commit: Id,
-    id: Id,
-) -> Result<Reply, Memory>
-    ensures reply { (past : List Entry) → StandsFor view.now past → IfOk result (λ a. a ≡ read_reply (repository_of view.now) past (call.OneElement project commit id)) }
-    ensures sound { IfOk result IsSoundReply }
-{
-    if view.project(project).is_none() {
-        return Ok(Reply::Refused(Refusal::UnknownProject));
-    }
-    if let Some(why) = commit_refusal(view.commit(commit), project) {
-        return Ok(Reply::Refused(why));
-    }
-    match element_at(view, commit, id) {
-        Some(doc) => Ok(Reply::Found(doc.copy(alloc)?)),
-        None => Ok(Reply::Refused(Refusal::UnknownElement)),
+        } => one_element(alloc, view, point, project, commit, id),
     }
 }
