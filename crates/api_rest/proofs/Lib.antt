@@ -1,1 +1,5 @@
 mod Worked
+pub mod Found
+pub mod Parts
+pub mod Table
+pub mod Branches

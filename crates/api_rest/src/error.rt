@@ -17,8 +17,14 @@ pub enum BodyError {
 /// Why a request asks for no call.
 #[derive(Debug, Drop)]
 pub enum RestError {
-    /// No call has this path and method.
+    /// The path has no route.
     NoRoute,
+    /// The route takes other methods than this one, joined by `, `.
+    NoMethod { allowed: Text },
+    /// The part of the path with this name is the first that is no id's text.
+    BadId { key: Text },
+    /// The parameter of this name occurs twice, or isn't an id's text.
+    BadParameter { key: Text },
     /// The body asks for no command.
     BadBody { why: BodyError },
     /// No memory was found.

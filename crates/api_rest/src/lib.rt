@@ -2,11 +2,16 @@
 //! binding).
 #![tactic(auto)]
 
+mod asked;
 mod error;
-mod place;
+mod operation;
+mod parameter;
 mod response;
+mod routes;
 mod routing;
+mod target;
 
 pub use error::{BodyError, RestError};
 pub use response::{is_head, respond, respond_error, respond_wire};
+pub use routes::{Route, Routes};
 pub use routing::route;

@@ -6,7 +6,7 @@ ghost use Rattle.doc_value.specs.Seen.{document};
 ghost use Rattle.http_wire.specs.Responses.{HasPhrase};
 ghost use Rattle.api_records.specs.Records.{reference_or_null};
 ghost use Rattle.entry_codec.specs.Replies.{IsSoundReply};
-ghost use Rattle.api_rest.specs.Responses.{error_doc, told, place_told, refusal_doc, refusal_status, body_doc, is_head, response_with, reply_response, rest_response, closing, wire_response};
+ghost use Rattle.api_rest.specs.Responses.{error_doc, told, place_told, refusal_doc, refusal_status, body_doc, is_head, response_with, reply_response, not_allowed, rest_response, closing, wire_response};
 
 use crate::error::{BodyError, RestError};
 use api_records::{Refusal, optional_reference_doc};
@@ -61,7 +61,7 @@ fn error_with_place(alloc: Global, name: &str, place: u32) -> Result<Doc, Memory
     Ok(Doc::Object(fields))
 }
 
-/// The same with a key of the body.
+/// The same with a key: of the body, of the path or of the query.
 fn error_with_key(alloc: Global, name: &str, key: &Text) -> Result<Doc, Memory>
     ensures doc { IfOk result (λ d. d ≡ error_doc name.now (told (codes "key") (text key.now))) }
     ensures sound { IfOk result (λ d. IsSound (document d)) }
@@ -94,9 +94,12 @@ fn refusal_status(why: &Refusal) -> u16
     match why {
         Refusal::UnknownProject
         | Refusal::UnknownBranch
+        | Refusal::UnknownTag
         | Refusal::UnknownCommit
-        | Refusal::UnknownElement => 404,
+        | Refusal::UnknownElement
+        | Refusal::UnknownChange => 404,
         Refusal::HeadMoved { head: _ }
+        | Refusal::DefaultBranch
         | Refusal::DeleteUnknown { place: _ }
         | Refusal::UnknownPin { place: _ } => 409,
         Refusal::MultiplePrevious
@@ -132,6 +135,7 @@ fn response(
     Ok(Response {
         status,
         moment,
+        allow: None,
         close: request.close,
         no_body: is_head(request),
         body: Bytes::of(doc.write(alloc)?),
@@ -142,21 +146,39 @@ fn response(
 pub fn respond(
     alloc: Global,
     request: &Request,
-    reply: &Reply,
+    reply: Reply,
     moment: Moment,
 ) -> Result<Response, Memory>
-    requires { IsSoundReply reply.now }
-    ensures response { IfOk result (λ v. v ≡ reply_response request.now moment reply.now) }
+    requires { IsSoundReply reply }
+    ensures response { IfOk result (λ v. v ≡ reply_response request.now moment reply) }
     ensures phrase { IfOk result (λ v. HasPhrase v.status) }
 {
     match reply {
-        Reply::Made(doc) => response(alloc, request, moment, 201, doc),
-        Reply::Found(doc) => response(alloc, request, moment, 200, doc),
+        Reply::Made(doc) => response(alloc, request, moment, 201, &doc),
+        Reply::Found(doc) => response(alloc, request, moment, 200, &doc),
+        Reply::Page { members } => response(alloc, request, moment, 200, &Doc::List(members)),
         Reply::Refused(why) => {
-            let doc = refusal_doc(alloc, why)?;
-            response(alloc, request, moment, refusal_status(why), &doc)
+            let doc = refusal_doc(alloc, &why)?;
+            response(alloc, request, moment, refusal_status(&why), &doc)
         }
     }
+}
+
+/// The response that tells which methods the target takes (RFC 9110, section 15.5.6).
+fn not_allowed(
+    alloc: Global,
+    request: &Request,
+    allowed: &Text,
+    moment: Moment,
+) -> Result<Response, Memory>
+    ensures { IfOk result (λ v. v ≡ not_allowed request.now moment allowed.now) }
+{
+    let doc = error_doc(alloc, "no-method")?;
+    let response = response(alloc, request, moment, 405, &doc)?;
+    Ok(Response {
+        allow: Some(allowed.copy(alloc)?),
+        ..response
+    })
 }
 
 /// The response that tells why a request asks for no call. Its status has a phrase. Want of memory is told by a fixed response in
@@ -175,6 +197,15 @@ pub fn respond_error(
         RestError::NoRoute => {
             response(alloc, request, moment, 404, &error_doc(alloc, "no-route")?)
         }
+        RestError::NoMethod { allowed } => not_allowed(alloc, request, allowed, moment),
+        RestError::BadId { key } => {
+            let doc = error_with_key(alloc, "bad-id", key)?;
+            response(alloc, request, moment, 400, &doc)
+        }
+        RestError::BadParameter { key } => {
+            let doc = error_with_key(alloc, "bad-parameter", key)?;
+            response(alloc, request, moment, 400, &doc)
+        }
         RestError::BadBody { why } => response(alloc, request, moment, 400, &body_doc(alloc, why)?),
         RestError::Memory => Err(Memory),
     }
@@ -188,6 +219,7 @@ fn closing(alloc: Global, status: u16, name: &str, moment: Moment) -> Result<Res
     Ok(Response {
         status,
         moment,
+        allow: None,
         close: true,
         no_body: false,
         body: Bytes::of(doc.write(alloc)?),

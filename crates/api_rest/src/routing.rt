@@ -4,26 +4,17 @@ ghost use Rattle.std.specs.Prelude.{◌≡◌, IfOk};
 ghost use Rattle.doc_value.specs.Document.{IsSound};
 ghost use Rattle.doc_value.specs.Seen.{document};
 ghost use Rattle.api_records.specs.Bodies.{HasIds, command_in};
-ghost use Rattle.api_rest.specs.Routes.{path_of, no_document, written, in_body, posted, gotten, routed, Gives, IsStorableCall};
+ghost use Rattle.api_rest.specs.Routes.{no_document, written, in_body, called, routed, Gives, IsStorableCall, IsReady};
 
+use crate::asked::{Asked, asked_of};
 use crate::error::{BodyError, RestError};
-use crate::place::{Place, place_of};
+use crate::routes::Routes;
 use api_records::{BodyKind, Command, ShapeError};
 use doc_value::{Doc, DocError};
-use entry_codec::{Call, ReadCall};
+use entry_codec::Call;
 use http_wire::Request;
 use std::alloc::Global;
-use sysapi_base::Ids;
-
-/// What stands before the first `?`.
-fn path(target: &str) -> &str
-    ensures { result.now ≡ path_of target.now }
-{
-    match target.split_once('?') {
-        Some((path, _)) => path,
-        None => target,
-    }
-}
+use sysapi_base::{Id, Ids};
 
 /// Why a body is no document.
 fn no_document(error: DocError) -> RestError
@@ -44,13 +35,19 @@ fn no_document(error: DocError) -> RestError
 }
 
 /// The command that a document asks for, with the ids of its route.
-fn in_document(alloc: Global, kind: BodyKind, ids: &Ids, doc: &Doc) -> Result<Call, RestError>
+fn in_document(
+    alloc: Global,
+    kind: BodyKind,
+    ids: &Ids,
+    branch: Option<Id>,
+    doc: &Doc,
+) -> Result<Call, RestError>
     requires ids { HasIds kind ids.now }
     requires sound { IsSound (document doc.now) }
-    ensures exact { Gives result (written (command_in kind ids.now (document doc.now))) }
+    ensures exact { Gives result (written (command_in kind ids.now branch (document doc.now))) }
     ensures storable { IfOk result IsStorableCall }
 {
-    match Command::from_body(alloc, kind, doc, ids) {
+    match Command::from_body(alloc, kind, doc, ids, branch) {
         Ok(command) => Ok(Call::Write(command)),
         Err(ShapeError::BadShape { key }) => Err(RestError::BadBody {
             why: BodyError::BadShape { key },
@@ -60,64 +57,41 @@ fn in_document(alloc: Global, kind: BodyKind, ids: &Ids, doc: &Doc) -> Result<Ca
 }
 
 /// The command that a body asks for, with the ids of its route.
-fn in_body(alloc: Global, kind: BodyKind, ids: &Ids, body: &[u8]) -> Result<Call, RestError>
+fn in_body(
+    alloc: Global,
+    kind: BodyKind,
+    ids: &Ids,
+    branch: Option<Id>,
+    body: &[u8],
+) -> Result<Call, RestError>
     requires { HasIds kind ids.now }
-    ensures exact { Gives result (in_body kind ids.now body.now) }
+    ensures exact { Gives result (in_body kind ids.now branch body.now) }
     ensures storable { IfOk result IsStorableCall }
 {
     match Doc::read(alloc, body) {
-        Ok(doc) => in_document(alloc, kind, ids, &doc),
+        Ok(doc) => in_document(alloc, kind, ids, branch, &doc),
         Err(error) => Err(no_document(error)),
     }
 }
 
-/// The call of a POST.
-fn posted(alloc: Global, place: Place, body: &[u8]) -> Result<Call, RestError>
-    ensures exact { Gives result (posted place body.now) }
+/// The call of what is asked for.
+fn called(alloc: Global, asked: Asked, body: &[u8]) -> Result<Call, RestError>
+    requires { IsReady asked }
+    ensures exact { Gives result (called body.now asked) }
     ensures storable { IfOk result IsStorableCall }
 {
-    match place {
-        Place::Projects => in_body(alloc, BodyKind::Project, &Ids::of(Vec::new(alloc)), body),
-        Place::Commits(project) => {
-            let mut ids = Vec::with_capacity(alloc, 1)?;
-            ids.push(project)?;
-            in_body(alloc, BodyKind::Commit, &Ids::of(ids), body)
-        }
-        _ => Err(RestError::NoRoute),
+    match asked {
+        Asked::Call(call) => Ok(call),
+        Asked::Body { kind, ids, branch } => in_body(alloc, kind, &ids, branch, body),
     }
 }
 
-/// The call of a GET.
-fn gotten(place: Place) -> Result<Call, RestError>
-    ensures exact { Gives result (gotten place) }
-    ensures storable { IfOk result IsStorableCall }
-{
-    match place {
-        Place::Project(project) => Ok(Call::Read(ReadCall::OneProject { project })),
-        Place::Element {
-            project,
-            commit,
-            id,
-        } => Ok(Call::Read(ReadCall::OneElement {
-            project,
-            commit,
-            id,
-        })),
-        _ => Err(RestError::NoRoute),
-    }
-}
-
-/// The call of a request, or why it asks for none. A body of one whose call takes none is ignored. The command of a call can be stored.
-pub fn route(alloc: Global, request: &Request) -> Result<Call, RestError>
+/// The call of a request, or why it asks for none. Errors come in the order of the error's variants. A body of one whose call takes
+/// none is ignored. The command of a call can be stored.
+pub fn route(alloc: Global, routes: &Routes, request: &Request) -> Result<Call, RestError>
     ensures exact { Gives result (routed request.now) }
     ensures storable { IfOk result IsStorableCall }
 {
-    let Some(place) = place_of(path(request.target.as_str())) else {
-        return Err(RestError::NoRoute);
-    };
-    match request.method.as_str() {
-        "POST" => posted(alloc, place, request.body.as_slice()),
-        "GET" => gotten(place),
-        _ => Err(RestError::NoRoute),
-    }
+    let asked = asked_of(alloc, routes, request)?;
+    called(alloc, asked, request.body.as_slice())
 }
