@@ -10,9 +10,10 @@ ghost use Rattle.sysapi_serve.specs.Parts.{read_result, write_result};
 use crate::outcome::{Outcome, Served};
 use crate::repo::Repo;
 use crate::turn::{More, Turn, close_busy, read_more, take_turn};
+use api_rest::Routes;
 use http_wire::Feed;
 use std::alloc::Global;
-use sysapi_base::{Clock, Sink, Source};
+use sysapi_base::{Clock, Memory, Sink, Source};
 
 /// So many bytes are read at most at a time.
 pub const PIECE: usize = 65_536;
@@ -20,9 +21,38 @@ pub const PIECE: usize = 65_536;
 /// After so many bytes no more are read.
 pub const BYTES_MOST: u64 = 1_099_511_627_776;
 
-/// Answers the requests of the source, one after another, until it ends, or until one can't be read or answered.
+/// Answers the requests of the source, one after another, until it ends, or until one can't be read or answered. The table of the
+/// routes is made first, once for the session; without memory for it the session ends before it reads.
 pub fn serve_alone<S: Source, K: Sink, C: Clock>(
     alloc: Global,
+    repo: &mut Repo,
+    source: &mut S,
+    sink: &mut K,
+    clock: &mut C,
+) -> Served
+    requires { length repo.old.history < 2 ^ 35 }
+    ensures session { IsServed repo.old repo.new (S.left source.old) (S.left source.new) (K.taken sink.old) (K.taken sink.new)
+        (C.readings clock.old) (C.readings clock.new) result }
+    ensures ended { result.outcome ≡ Outcome.Ended ⊎ (result.outcome ≡ Outcome.CutShort) → IsAtEnd (S.left source.new) }
+    ensures source { Passes S.faults S.IsSteady source.old source.new (read_result result.outcome) }
+    ensures sink { Passes K.faults K.IsSteady sink.old sink.new (write_result result.outcome) }
+{
+    match Routes::new(alloc) {
+        Ok(routes) => serve_routed(alloc, &routes, repo, source, sink, clock),
+        Err(Memory) => {
+            let outcome = close_busy(sink, clock.now());
+            Served {
+                outcome,
+                answered: 0,
+            }
+        }
+    }
+}
+
+/// The session over a table of the routes.
+fn serve_routed<S: Source, K: Sink, C: Clock>(
+    alloc: Global,
+    routes: &Routes,
     repo: &mut Repo,
     source: &mut S,
     sink: &mut K,
@@ -40,7 +70,7 @@ pub fn serve_alone<S: Source, K: Sink, C: Clock>(
     let mut total = 0;
     let mut answered = 0;
     'turns: loop {
-        match take_turn(alloc, repo, &mut feed, sink, clock) {
+        match take_turn(alloc, routes, repo, &mut feed, sink, clock) {
             Turn::Answered => answered += 1,
             Turn::Ends(outcome) => return Served { outcome, answered },
             Turn::Waits => {

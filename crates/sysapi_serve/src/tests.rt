@@ -1,4 +1,11 @@
+mod branches;
+mod changes;
 mod commits;
+mod flag;
+mod projects;
+mod routes;
+mod rows;
+mod tags;
 
 use super::*;
 use std::alloc::Global;
@@ -58,14 +65,17 @@ fn joined(alloc: Global, parts: &[&[u8]]) -> Result<Vec<u8>, Fail> {
     Ok(all)
 }
 
+/// Runs the program on these words, between which a space stands.
 fn run(
     alloc: Global,
-    word: &str,
+    text: &str,
     mut source: MemorySource,
     mut sink: MemorySink,
 ) -> Result<Ran, Fail> {
     let mut words = Vec::new(alloc);
-    words.push(String::from_str(alloc, word)?)?;
+    for word in text.split(' ') {
+        words.push(String::from_str(alloc, word)?)?;
+    }
     let mut complaints = MemorySink::new(alloc);
     let mut clock = MemoryClock::new(Moment::at_most(NOW), 0);
     let status = run_offline(
@@ -262,7 +272,7 @@ fn bad_bodies(rt: HostRuntime) -> Result<(), Fail> {
     for (body, error) in &bodies {
         let ran = once(alloc, &post(alloc, body)?)?;
         let told = format!(in alloc; "{{\"@type\":\"Error\",\"error\":{error}}}")?;
-        let expected = commits::response(alloc, "400 Bad Request", told.as_str())?;
+        let expected = rows::response(alloc, "400 Bad Request", told.as_str())?;
         assert_eq!(rt; ran.output.as_slice(), expected.as_slice());
         assert_eq!(rt; ran.status, 0);
     }
@@ -272,22 +282,15 @@ fn bad_bodies(rt: HostRuntime) -> Result<(), Fail> {
 #[test]
 fn words_that_are_not_the_language(rt: HostRuntime) -> Result<(), Fail> {
     let alloc = rt.alloc();
-    let source = MemorySource::new(alloc, Vec::from_slice(alloc, POST)?);
-    let ran = run(alloc, "twice", source, MemorySink::new(alloc))?;
-    assert_eq!(rt; ran.status, 2);
-    assert!(rt; ran.output.is_empty());
-    assert_eq!(rt;
-        ran.complaints.as_slice(),
-        b"sysapi: bad words\n".as_slice()
-    );
-    Ok(())
-}
-
-#[test]
-fn head_has_no_body(rt: HostRuntime) -> Result<(), Fail> {
-    let alloc = rt.alloc();
-    let ran = once(alloc, b"HEAD /projects HTTP/1.1\r\nHost: h\r\n\r\n")?;
-    let head = &NO_ROUTE[..NO_ROUTE.len() - 36];
-    assert_eq!(rt; ran.output.as_slice(), head);
+    for words in ["twice", "once --room 5", "once once", "Once", ""] {
+        let source = MemorySource::new(alloc, Vec::from_slice(alloc, POST)?);
+        let ran = run(alloc, words, source, MemorySink::new(alloc))?;
+        assert_eq!(rt; ran.status, 2);
+        assert!(rt; ran.output.is_empty());
+        assert_eq!(rt;
+            ran.complaints.as_slice(),
+            b"sysapi: bad words\n".as_slice()
+        );
+    }
     Ok(())
 }

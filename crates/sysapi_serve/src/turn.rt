@@ -19,7 +19,7 @@ use crate::outcome::Outcome;
 use crate::repo::Repo;
 use crate::send::send;
 use api_records::Command;
-use api_rest::{RestError, is_head, respond, respond_error, respond_wire, route};
+use api_rest::{RestError, Routes, is_head, respond, respond_error, respond_wire, route};
 use entry_codec::{Call, Entry, Reply};
 use http_wire::{Feed, Request, WireError, fixed_response, write_response};
 use repo_state::{AcceptError, Accepted};
@@ -41,7 +41,7 @@ pub(crate) enum More {
     NoMemory,
 }
 
-/// The bytes that tell a reply, which is let go before they are joined.
+/// The bytes that tell a reply. Its document is let go before they are joined.
 fn reply_text(
     alloc: Global,
     request: &Request,
@@ -51,8 +51,7 @@ fn reply_text(
     requires { IsSoundReply reply }
     ensures { IfOk result (λ text. text.items ≡ reply_text request.now moment reply) }
 {
-    let response = respond(alloc, request, &reply, moment)?;
-    drop(reply);
+    let response = respond(alloc, request, reply, moment)?;
     write_response(alloc, &response)
 }
 
@@ -139,6 +138,7 @@ fn without_body(alloc: Global, request: Request) -> Request
 /// nothing is accepted.
 fn judge(
     alloc: Global,
+    routes: &Routes,
     repo: &mut Repo,
     request: Request,
     moment: Moment,
@@ -148,7 +148,7 @@ fn judge(
     ensures accepted { OnOk result (repo.new ≡ after repo.old request moment) }
     ensures err { OnErr result (repo.new ≡ repo.old) }
 {
-    let routed = route(alloc, &request);
+    let routed = route(alloc, routes, &request);
     let request = without_body(alloc, request);
     match routed {
         Ok(call) => answer_call(alloc, repo, &request, moment, call),
@@ -159,6 +159,7 @@ fn judge(
 /// Judges a request and writes its response.
 fn answer<K: Sink>(
     alloc: Global,
+    routes: &Routes,
     repo: &mut Repo,
     request: Request,
     moment: Moment,
@@ -171,7 +172,7 @@ fn answer<K: Sink>(
 {
     let close = request.close;
     let no_body = is_head(&request);
-    match judge(alloc, repo, request, moment) {
+    match judge(alloc, routes, repo, request, moment) {
         Ok(text) => send(sink, &text),
         Err(Memory) => {
             let text = fixed_response(503, moment, close, no_body);
@@ -229,6 +230,7 @@ fn refuse<K: Sink>(alloc: Global, error: WireError, moment: Moment, sink: &mut K
 /// Answers the request at the front of the feed, where one stands there. The clock is read once for it.
 pub(crate) fn take_turn<K: Sink, C: Clock>(
     alloc: Global,
+    routes: &Routes,
     repo: &mut Repo,
     feed: &mut Feed,
     sink: &mut K,
@@ -239,7 +241,7 @@ pub(crate) fn take_turn<K: Sink, C: Clock>(
     ensures passes { Passes K.faults K.IsSteady sink.old sink.new (turn_result result) }
 {
     match feed.next(alloc) {
-        Some(Ok(request)) => match answer(alloc, repo, request, clock.now(), sink) {
+        Some(Ok(request)) => match answer(alloc, routes, repo, request, clock.now(), sink) {
             Ok(()) => Turn::Answered,
             Err(Failed) => Turn::Ends(Outcome::WriteFault),
         },

@@ -1,27 +1,14 @@
 //! Commits and elements, over whole streams.
 
-use super::{joined, once, post};
+use super::post;
+use super::rows::{COMMITS, Rows, commit, id, made, refused, response};
 use std::alloc::Global;
 use std::test::Fail;
-
-/// The path of the first project's commits.
-const COMMITS: &str = "/projects/00000000-0001-8000-8000-000000000000/commits";
 
 /// An id that no server made.
 const E: &str = "11111111-1111-4111-8111-111111111111";
 
-/// The text of the id that repository 1 makes of a serial.
-fn id(alloc: Global, serial: u64) -> Result<String, Fail> {
-    Ok(format!(in alloc; "00000000-0001-8000-8000-{serial:012x}")?)
-}
-
-fn commit(alloc: Global, body: &str) -> Result<Vec<u8>, Fail> {
-    let text = format!(in alloc;
-        "POST {COMMITS} HTTP/1.1\r\nHost: h\r\nContent-Length: {}\r\n\r\n{body}",
-        body.len()
-    )?;
-    Ok(Vec::from_slice(alloc, text.as_bytes())?)
-}
+const UNKNOWN_ELEMENT: (&str, &str) = ("404 Not Found", "unknown-element");
 
 /// A request for the element of the serial 4 at the commit of a serial.
 fn element_4(alloc: Global, at: u64) -> Result<Vec<u8>, Fail> {
@@ -36,98 +23,12 @@ fn element(alloc: Global, at: u64, element: &str) -> Result<Vec<u8>, Fail> {
     Ok(Vec::from_slice(alloc, text.as_bytes())?)
 }
 
-/// A response with this status line and body.
-pub(super) fn response(alloc: Global, status: &str, body: &str) -> Result<Vec<u8>, Fail> {
-    let text = format!(in alloc;
-        "HTTP/1.1 {status}\r\nDate: Sat, 01 Jan 2000 00:00:00 GMT\r\nContent-Type: application/json\r\nContent-Length: {}\r\n\r\n{body}",
-        body.len()
-    )?;
-    Ok(Vec::from_slice(alloc, text.as_bytes())?)
-}
-
-/// The response that tells a commit of the first project.
-fn made(alloc: Global, serial: u64, previous: Option<u64>) -> Result<Vec<u8>, Fail> {
-    let this = id(alloc, serial)?;
-    let previous = match previous {
-        Some(serial) => format!(in alloc; "{{\"@id\":\"{}\"}}", id(alloc, serial)?)?,
-        None => String::from_str(alloc, "null")?,
-    };
-    let body = format!(in alloc;
-        "{{\"@id\":\"{this}\",\"@type\":\"Commit\",\"created\":\"2000-01-01T00:00:00.000Z\",\"description\":null,\"owningProject\":{{\"@id\":\"00000000-0001-8000-8000-000000000000\"}},\"previousCommit\":{previous}}}"
-    )?;
-    response(alloc, "201 Created", body.as_str())
-}
-
 /// The response that tells element 4 with a name.
 fn named(alloc: Global, name: &str) -> Result<Vec<u8>, Fail> {
     let body = format!(in alloc;
         "{{\"@id\":\"00000000-0001-8000-8000-000000000004\",\"@type\":\"Package\",\"declaredName\":\"{name}\"}}"
     )?;
     response(alloc, "200 OK", body.as_str())
-}
-
-/// The response that tells an error; `more` is the rest of its object.
-fn refused(alloc: Global, status: &str, name: &str, more: &str) -> Result<Vec<u8>, Fail> {
-    let body = format!(in alloc; "{{\"@type\":\"Error\",\"error\":\"{name}\"{more}}}")?;
-    response(alloc, status, body.as_str())
-}
-
-const UNKNOWN_ELEMENT: (&str, &str) = ("404 Not Found", "unknown-element");
-
-/// The rows that follow one another: each is a request and its response behind those before it.
-#[derive(Drop)]
-struct Rows {
-    requests: Vec<u8>,
-    responses: Vec<u8>,
-}
-
-impl Rows {
-    /// The first project.
-    fn start(alloc: Global) -> Result<Rows, Fail> {
-        Ok(Rows {
-            requests: Vec::from_slice(alloc, super::POST)?,
-            responses: joined(alloc, &[super::CREATED, super::PROJECT])?,
-        })
-    }
-
-    fn row(&mut self, request: &[u8], response: &[u8]) -> Result<(), Fail> {
-        self.requests.extend_from_slice(request)?;
-        self.responses.extend_from_slice(response)?;
-        Ok(())
-    }
-
-    /// The commits 2, 5 and 7: element 4 is made, replaced and deleted.
-    fn three_commits(alloc: Global) -> Result<Rows, Fail> {
-        let mut rows = Rows::start(alloc)?;
-        rows.row(
-            &commit(
-                alloc,
-                "{\"change\":[{\"payload\":{\"@type\":\"Package\",\"declaredName\":\"A\"}}],\"previousCommit\":null}",
-            )?,
-            &made(alloc, 2, None)?,
-        )?;
-        rows.row(
-            &commit(
-                alloc,
-                "{\"change\":[{\"identity\":{\"@id\":\"00000000-0001-8000-8000-000000000004\"},\"payload\":{\"@type\":\"Package\",\"declaredName\":\"B\"}}]}",
-            )?,
-            &made(alloc, 5, Some(2))?,
-        )?;
-        rows.row(
-            &commit(
-                alloc,
-                "{\"change\":[{\"identity\":{\"@id\":\"00000000-0001-8000-8000-000000000004\"},\"payload\":null}]}",
-            )?,
-            &made(alloc, 7, Some(5))?,
-        )?;
-        Ok(rows)
-    }
-
-    /// Whether the session gives the responses.
-    fn hold(&self, alloc: Global) -> Result<bool, Fail> {
-        let ran = once(alloc, &self.requests)?;
-        Ok(ran.status == 0 && ran.output.as_slice() == self.responses.as_slice())
-    }
 }
 
 #[test]

@@ -2,7 +2,7 @@ use Rattle.std.proofs.Common.{◌≡◌, ◌+◌, ◌-◌, ◌*◌, ◌^◌, ◌
 use Rattle.sysapi_serve.specs.declared.session.TheConstants.{BYTES_MOST, PIECE}
 use Rattle.sysapi_serve.proofs.SendLemmas.{HasPassed}
 use Rattle.sysapi_serve.proofs.SessionLemmas.{IsRunning}
-use Rattle.sysapi_serve.proofs.session.serve_alone.Given as goal
+use Rattle.sysapi_serve.proofs.session.serve_routed.Given as goal
 
 abbrev pub invariant-turns : goal.invariant-turns
 invariant-turns g l = record {
