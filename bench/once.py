@@ -2,9 +2,10 @@
 
 For each kind of stream, of N and of 2N requests, it prints one row: the requests a second by the clock on the wall, the
 processor time of a request, that time over the yardstick's (bench/yardstick.py), the processor time for 2N over that for N, and
-the program's peak of resident memory. Commits of one change are a tenth as many, and a commit of many payloads is one request,
-of N/2 and of N payloads. Each time is the least of a few runs; processor time is told because other work on the
-machine changes it least. Starting up doesn't count: the program's times are less those of an empty stream.
+the program's peak of resident memory. Commits of one change, branches and tags are a tenth as many, and a commit of many
+payloads is one request, of N/2 and of N payloads. Lists are read twenty times. Each time is the least of a few runs; processor
+time is told because other work on the machine changes it least. Starting up doesn't count, and neither do the requests that
+make what the others read: the times are less those of a stream of these alone.
 Usage: once.py [--requests N] [--rounds N] [PROGRAM]
 """
 
@@ -22,6 +23,8 @@ sys.path.insert(0, os.path.join(os.path.dirname(HERE), "checks"))
 from common import PROGRAM, commits_of, element_at, get, made_id, post, program_at  # noqa: E402
 
 COMMITS = commits_of(made_id(0))
+BRANCHES = f"/projects/{made_id(0)}/branches"
+TAGS = f"/projects/{made_id(0)}/tags"
 PROJECT = post(b'{"name":"P"}')
 
 
@@ -42,6 +45,34 @@ def commit(changes):
 # a project and its first commit, #2, which makes a hundred elements
 ELEMENTS = [PROJECT, commit(change(it, "A") for it in range(100))]
 
+# a project and its first commit, #2, which has no changes; a branch and a tag of it draw one serial each, from #3 on
+EMPTY = [PROJECT, commit([])]
+BRANCH = post(b'{"name":"x","head":{"@id":"%s"}}' % made_id(2).encode(), BRANCHES)
+TAG = post(b'{"name":"v1","taggedCommit":{"@id":"%s"}}' % made_id(2).encode(), TAGS)
+
+
+def branches(count):
+    return EMPTY + [BRANCH] * count
+
+
+def branch_reads(count):
+    """Ten times as many reads as there are branches, of one after another, in an order that jumps."""
+    return [get(f"{BRANCHES}/{made_id(3 + it * 7919 % count)}") for it in range(10 * count)]
+
+
+def empty_commits(count):
+    return [PROJECT] + [commit([])] * count
+
+
+def one_commit(count):
+    """A project, and its one commit of this many changes."""
+    return [PROJECT, *payloads(count)]
+
+
+def lists(path):
+    """What makes the reads of a list, however long it is."""
+    return lambda _: [get(path)] * 20
+
 
 def payloads(count):
     """One commit of this many payloads without identities."""
@@ -53,22 +84,24 @@ def reads(count):
 
 
 class Stream:
-    """Requests of one kind behind the first ones, whose responses have the status 201, as many as a part of those asked for."""
+    """Requests of one kind behind the first ones, whose responses have the status 201, as many as a part of those asked for.
+
+    The first ones are told as a list, or by the number of the others."""
 
     def __init__(self, name, first, make, status, part=1):
-        self.name, self.first = name, first
+        self.name, self.first = name, first if callable(first) else lambda _: first
         self.make, self.status, self.part = make, status, part
 
     def requests(self, asked):
-        """The requests behind the first ones, and their name."""
+        """The first requests, those behind them, and their name."""
         size = max(1, asked // self.part)
-        return self.make(size), self.name.replace("N ", f"{size:,} ")
+        return self.first(size), self.make(size), self.name.replace("N ", f"{size:,} ")
 
-    def check(self, count, output):
+    def check(self, first, count, output):
         """The program has answered each request, and as it should."""
         output.seek(0)
         told = output.read()
-        wanted = count + (len(self.first) if self.status == 201 else 0)
+        wanted = count + (len(first) if self.status == 201 else 0)
         found = told.count(b"HTTP/1.1 %d " % self.status)
         if found != wanted:
             sys.exit(f"{self.name}: {found} of {wanted} responses have status {self.status}, so the times say nothing")
@@ -80,6 +113,12 @@ STREAMS = [
     Stream("reads of one element", ELEMENTS, reads, 200),
     Stream("commits of one change", ELEMENTS, lambda size: [commit([change(it, f"B{it}")]) for it in range(size)], 201, 10),
     Stream("one commit of N small payloads", [PROJECT], payloads, 201, 2),
+    Stream("branches", EMPTY, lambda size: [BRANCH] * size, 201, 10),
+    Stream("tags", EMPTY, lambda size: [TAG] * size, 201, 10),
+    Stream("reads of one of N branches", branches, branch_reads, 200, 10),
+    Stream("lists of N branches", branches, lists(BRANCHES), 200, 10),
+    Stream("lists of N commits of a branch", empty_commits, lists(f"{COMMITS}?branchId={made_id(1)}"), 200, 10),
+    Stream("lists of N changes of a commit", one_commit, lists(f"{COMMITS}/{made_id(2)}/changes"), 200, 10),
 ]
 
 
@@ -137,24 +176,44 @@ def peak_memory(words, source, size):
     return int(told[0][1]) * 1024
 
 
-def rows(stream, asked, words, yardstick, rounds, start):
+def source_of(requests):
+    """A file of these requests."""
+    source = tempfile.TemporaryFile()
+    source.write(b"".join(requests))
+    source.flush()
+    return source
+
+
+class Race:
+    """The program and the yardstick on the whole of a stream, and each on its first requests, whose times are taken off."""
+
+    def __init__(self, words, yardstick, first, requests):
+        whole, before = source_of(first + requests), source_of(first)
+        self.lanes = [Lane(words, whole), Lane(words, before), Yardstick(yardstick, whole), Yardstick(yardstick, before)]
+
+    def times(self):
+        """The wall's and the processor's time of the program, and the processor's of the yardstick."""
+        whole, before, other, other_before = self.lanes
+        spent = (whole.wall - before.wall, whole.processor - before.processor, other.processor - other_before.processor)
+        return [max(it, 1e-9) for it in spent]
+
+
+def rows(stream, asked, words, yardstick, rounds):
     """The table's rows for one kind of stream, for each of these numbers of requests."""
     made = [stream.requests(it) for it in asked]
-    sources = [tempfile.TemporaryFile() for _ in made]
-    for (requests, _), source in zip(made, sources):
-        source.write(b"".join(stream.first + requests))
-        source.flush()
-    lanes, others = [Lane(words, it) for it in sources], [Yardstick(yardstick, it) for it in sources]
-    take_turns(lanes + others, rounds)
+    races = [Race(words, yardstick, first, requests) for first, requests, _ in made]
+    take_turns([lane for race in races for lane in race.lanes], rounds)
     half = None
-    for (requests, name), lane, other in zip(made, lanes, others):
-        count = len(requests)
-        stream.check(count, lane.output)
+    for (first, requests, name), race in zip(made, races):
+        count, lane = len(requests), race.lanes[0]
+        stream.check(first, count, lane.output)
         memory = peak_memory(words, lane.source, os.fstat(lane.output.fileno()).st_size)
-        processor = lane.processor - start.processor
+        wall, processor, other = race.times()
+        # (what takes the yardstick less than a millisecond is no measure)
+        over = f"{processor / other:.2f}" if other > 0.001 else ""
         yield (
-            f"| {name} | {count:,} | {count / (lane.wall - start.wall):,.0f} | {processor / count * 1e6:,.2f} "
-            f"| {processor / other.processor:.2f} | {f'{processor / half:.2f}' if half else ''} | {memory / 2**20:.1f} |"
+            f"| {name} | {count:,} | {count / wall:,.0f} | {processor / count * 1e6:,.2f} "
+            f"| {over} | {f'{processor / half:.2f}' if half else ''} | {memory / 2**20:.1f} |"
         )
         half = processor
 
@@ -178,13 +237,11 @@ def main():
     words = [program_at(asked.program), "-", "once"]
     yardstick = [sys.executable, os.path.join(HERE, "yardstick.py")]
     name = subprocess.run([*yardstick, "--name"], stdout=subprocess.PIPE, text=True, check=True).stdout.strip()
-    start = Lane(words, tempfile.TemporaryFile())
-    take_turns([start], asked.rounds)
     print(f"{processor()}, {os.cpu_count()} processors; yardstick: {name}; least of {asked.rounds} runs\n")
     print("| stream | requests | requests/s | processor µs a request | over the yardstick's | 2N over N | peak memory, MiB |")
     print("|---|---:|---:|---:|---:|---:|---:|")
     for stream in STREAMS:
-        for row in rows(stream, (asked.requests, 2 * asked.requests), words, yardstick, asked.rounds, start):
+        for row in rows(stream, (asked.requests, 2 * asked.requests), words, yardstick, asked.rounds):
             print(row, flush=True)
 
 

@@ -1,8 +1,8 @@
 """A yardstick for bench/once.py: reads the same requests, reads their JSON, and answers each by one write of fixed bytes.
 
-It keeps nothing, checks nothing and looks nothing up: what is left is the least that such a server in Python does, with the
-fastest reader of JSON that is installed. It prints the seconds of processor time that it took, without Python's start, on
-standard error; `--name` prints which reader it has.
+It keeps nothing, checks nothing and looks nothing up, and each list has one member: what is left is the least that such a
+server in Python does, with the fastest reader of JSON that is installed. It prints the seconds of processor time that it took,
+without Python's start, on standard error; `--name` prints which reader it has.
 """
 
 import os
@@ -28,12 +28,21 @@ COMMIT = (
     '{"@id":"00000000-0001-8000-8000-000000000002","@type":"Commit","created":"2000-01-01T00:00:00.000Z","description":null,'
     '"owningProject":{"@id":"00000000-0001-8000-8000-000000000000"},"previousCommit":null}'
 )
+BRANCH = (
+    '{"@id":"00000000-0001-8000-8000-000000000003","@type":"Branch","created":"2000-01-01T00:00:00.000Z",'
+    '"head":{"@id":"00000000-0001-8000-8000-000000000002"},"name":"x",'
+    '"owningProject":{"@id":"00000000-0001-8000-8000-000000000000"},'
+    '"referencedCommit":{"@id":"00000000-0001-8000-8000-000000000002"}}'
+)
 ELEMENT = '{"@id":"11111111-1111-4111-8111-000000000000","@type":"Package","declaredName":"A"}'
 # by the method and the slashes of the path
 ANSWERS = {
     (b"POST", 1): answer("201 Created", PROJECT),
     (b"GET", 2): answer("200 OK", PROJECT),
     (b"POST", 3): answer("201 Created", COMMIT),
+    (b"GET", 3): answer("200 OK", f"[{BRANCH}]"),
+    (b"GET", 4): answer("200 OK", BRANCH),
+    (b"GET", 5): answer("200 OK", f"[{BRANCH}]"),
     (b"GET", 6): answer("200 OK", ELEMENT),
 }
 

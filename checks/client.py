@@ -120,20 +120,38 @@ def record(body, **wanted):
     created = json.loads(body)["created"]
     if not re.fullmatch(r"\d{4}-\d\d-\d\dT\d\d:\d\d:\d\d\.\d{3}Z", created):
         raise Wrong(f"created is {created!r}")
-    same("the record", body.decode("utf-8"), written({"created": created, "description": None, **wanted}))
+    same("the record", body.decode("utf-8"), written({"created": created, **wanted}))
     return body
 
 
 def project_record(body, name):
     """The body is the first project's record."""
-    return record(body, **{"@id": made_id(0), "@type": "Project"}, defaultBranch={"@id": made_id(1)}, name=name)
+    names = {"@id": made_id(0), "@type": "Project"}
+    return record(body, **names, defaultBranch={"@id": made_id(1)}, description=None, name=name)
 
 
 def commit_record(body, serial, previous):
     """The body is the record of a commit of the first project, by the serials of its id and of the one before it."""
     previous = previous and {"@id": made_id(previous)}
     names = {"@id": made_id(serial), "@type": "Commit"}
-    return record(body, **names, owningProject={"@id": made_id(0)}, previousCommit=previous)
+    return record(body, **names, description=None, owningProject={"@id": made_id(0)}, previousCommit=previous)
+
+
+def branch_record(body, serial, head, name):
+    """The body is the record of a branch of the first project."""
+    names, head = {"@id": made_id(serial), "@type": "Branch"}, {"@id": made_id(head)}
+    return record(body, **names, head=head, name=name, owningProject={"@id": made_id(0)}, referencedCommit=head)
+
+
+def tag_record(body, serial, commit, name):
+    """The body is the record of a tag of the first project."""
+    names, commit = {"@id": made_id(serial), "@type": "Tag"}, {"@id": made_id(commit)}
+    return record(body, **names, name=name, owningProject={"@id": made_id(0)}, referencedCommit=commit, taggedCommit=commit)
+
+
+def listed(*members):
+    """The body of a list of these members' bodies."""
+    return b"[" + b",".join(members) + b"]"
 
 
 def change_text(payload, identity=None):
@@ -183,7 +201,8 @@ class Peer:
             raise Wrong("the client had to connect again")
         response = self.connection.getresponse()
         body = response.read()
-        names = ["Date", "Content-Type", "Content-Length"] + ["Connection"] * closes
+        names = ["Date", "Content-Type", "Content-Length"]
+        names += ["Allow"] * (response.status == 405) + ["Connection"] * closes
         same("the list of fields", [name for name, _ in response.getheaders()], names)
         same("the version", response.version, 11)
         same("whether the server closes", response.will_close, closes)
@@ -192,6 +211,7 @@ class Peer:
         if abs(time.time() - when) > PATIENCE:
             raise Wrong(f"Date is {response.getheader('Date')}")
         self.length = int(response.getheader("Content-Length"))
+        self.allowed = response.getheader("Allow")
         return response.status, body
 
 
@@ -204,8 +224,8 @@ def session_of_http_client(bridge):
     same("the project", peer.ask("GET", PROJECT), (200, made))
     same("another project", peer.ask("GET", "/projects/" + made_id(7)), (404, (ERROR % "unknown-project").encode()))
     same("a wrong body", peer.ask("POST", "/projects", '{"name":'), (400, (ERROR % "bad-json").encode()))
-    same("HEAD", peer.ask("HEAD", "/projects"), (404, b""))
-    same("the length that HEAD tells", peer.length, len(ERROR % "no-route"))
+    same("HEAD", peer.ask("HEAD", "/projects"), (405, b""))
+    same("what HEAD tells", (peer.length, peer.allowed), (len(ERROR % "no-method"), "GET, POST"))
     same("the project after HEAD", peer.ask("GET", PROJECT), (200, made))
     name = "slowly, slowly \u00e9 " * 100
     body = json.dumps({"name": name}, ensure_ascii=False).encode("utf-8")
@@ -246,6 +266,45 @@ def commits_of_http_client(bridge):
     bridge.check_end(0, 0, "")
 
 
+def branches_of_http_client(bridge):
+    """A session of a branch and a tag, with PUT and DELETE, and lists of what was made."""
+    peer, json_type = Peer(bridge.port), {"Content-Type": "application/json"}
+    posts = lambda path, body: peer.ask("POST", path, body, json_type)
+    branches, tags = PROJECT + "/branches", PROJECT + "/tags"
+    same("no projects", peer.ask("GET", "/projects"), (200, b"[]"))
+    project = project_record(posts("/projects", '{"name":"P"}')[1], "P")
+    first = commit_record(posts(COMMITS, change_text({"n": 1}))[1], 2, None)
+    status, made = posts(branches, written({"name": "x", "head": {"@id": made_id(2)}}))
+    same("the status of a branch", (status, branch_record(made, 5, 2, "x")), (201, made))
+    status, last = posts(COMMITS + "?branchId=" + made_id(5), change_text({"n": 2}, made_id(4)))
+    same("the status of a commit on it", (status, commit_record(last, 6, 2)), (201, last))
+    same("the branch's commits", peer.ask("GET", COMMITS + "?branchId=" + made_id(5)), (200, listed(first, last)))
+    same("the default branch's commits", peer.ask("GET", COMMITS + "?branchId=" + made_id(1)), (200, listed(first)))
+    version = {"@id": made_id(7), "@type": "DataVersion", "identity": {"@id": made_id(4), "@type": "DataIdentity"}}
+    version = written({**version, "payload": {"@id": made_id(4), "n": 2}}).encode()
+    same("the commit's changes", peer.ask("GET", f"{COMMITS}/{made_id(6)}/changes"), (200, listed(version)))
+    same("its one change", peer.ask("GET", f"{COMMITS}/{made_id(6)}/changes/{made_id(7)}"), (200, version))
+    status, tag = posts(tags, written({"name": "v1", "taggedCommit": {"@id": made_id(6)}}))
+    same("the status of a tag", (status, tag_record(tag, 8, 6, "v1")), (201, tag))
+    same("the tags", peer.ask("GET", tags), (200, listed(tag)))
+    same("a tag that goes", peer.ask("DELETE", f"{tags}/{made_id(8)}"), (200, tag))
+    same("a tag that went", peer.ask("DELETE", f"{tags}/{made_id(8)}"), (404, (ERROR % "unknown-tag").encode()))
+    same("the default branch stays", peer.ask("DELETE", f"{branches}/{made_id(1)}")[0], 409)
+    moves = written({"name": "P", "defaultBranch": {"@id": made_id(5)}})
+    moved = project.replace(made_id(1).encode(), made_id(5).encode())
+    same("an update", peer.ask("PUT", PROJECT, moves, json_type), (200, moved))
+    status, gone = peer.ask("DELETE", f"{branches}/{made_id(1)}")
+    same("a branch that goes", (status, branch_record(gone, 1, 2, None)), (200, gone))
+    shown = branch_record(peer.ask("GET", f"{branches}/{made_id(5)}")[1], 5, 6, "x")
+    same("the branches", peer.ask("GET", branches), (200, listed(shown)))
+    same("a method that isn't there", (peer.ask("PATCH", branches)[0], peer.allowed), (405, "GET, POST"))
+    same("the projects", peer.ask("GET", "/projects"), (200, listed(moved)))
+    same("a project that goes", peer.ask("DELETE", PROJECT), (200, moved))
+    same("the project that went", peer.ask("GET", branches), (404, (ERROR % "unknown-project").encode()))
+    peer.close()
+    bridge.check_end(0, 0, "")
+
+
 def each_connection_starts_anew(bridge):
     """Another connection has another program, whose repository is empty, and which ends well when the client leaves."""
     peer = Peer(bridge.port)
@@ -280,9 +339,9 @@ def session_of_curl(bridge):
         ("/projects", "-H", "Transfer-Encoding: chunked", "--data-binary", "{}"),
         (PROJECT,),
     ]
-    bodies = run_curl(bridge, requests, ["201 1", "200 0", "404 0", "400 0", "200 0", "501 0", "404 1"])
+    bodies = run_curl(bridge, requests, ["201 1", "200 0", "405 0", "400 0", "200 0", "501 0", "404 1"])
     made, head = project_record(bodies[0], "P"), bodies.pop(2)
-    same("the last line of what HEAD gets", head.split(b"\r\n")[-3:], [b"Content-Length: 36", b"", b""])
+    same("the last lines of what HEAD gets", head.split(b"\r\n")[-4:], [b"Content-Length: 37", b"Allow: GET, POST", b"", b""])
     errors = [(ERROR % text).encode() for text in ("bad-json", "unknown-coding", "unknown-project")]
     same("what curl got", bodies[1:], [made, errors[0], made, errors[1], errors[2]])
     bridge.check_end(0, 6, REFUSED)
@@ -316,6 +375,37 @@ def commits_of_curl(bridge):
     bridge.check_end(0, 0, "")
 
 
+def branches_of_curl(bridge):
+    """A branch and a tag by one call of curl, with its own ways of PUT and DELETE."""
+    branches, tags = PROJECT + "/branches", PROJECT + "/tags"
+    lost = ("-X", "DELETE")
+    requests = [
+        ("/projects", *posted('{"name":"P"}')),
+        (COMMITS, *posted("{}")),
+        (branches, *posted(written({"name": "x", "head": {"@id": made_id(2)}}))),
+        (COMMITS + "?branchId=" + made_id(3), *posted("{}")),
+        (tags, *posted(written({"taggedCommit": {"@id": made_id(4)}}))),
+        (COMMITS,),
+        (f"{tags}/{made_id(5)}", *lost),
+        (PROJECT, "-X", "PUT", *posted('{"name":"Q"}')),
+        (f"{branches}/{made_id(3)}", *lost),
+        (branches,),
+        (PROJECT, *lost),
+        ("/projects",),
+    ]
+    bodies = run_curl(bridge, requests, ["201 1"] + ["201 0"] * 4 + ["200 0"] * 7)
+    project, first, branch, last, tag, listing, lost_tag, renamed, lost_branch, left, gone, none = bodies
+    commits = listed(commit_record(first, 2, None), commit_record(last, 4, 2))
+    same("the commits", listing, commits)
+    branch_record(branch, 3, 2, "x")
+    branch_record(lost_branch, 3, 4, "x")
+    same("the tag that went", lost_tag, tag_record(tag, 5, 4, None))
+    same("the project that was updated", renamed, project_record(project, "P").replace(b'"name":"P"', b'"name":"Q"'))
+    same("the branches that are left", left, listed(branch_record(left[1:-1], 1, 2, None)))
+    same("what went last", (gone, none), (renamed, b"[]"))
+    bridge.check_end(0, 0, "")
+
+
 def posted(body):
     """What curl is told of a request with this body."""
     return ["-H", "Content-Type: application/json", "--data-binary", body]
@@ -331,9 +421,9 @@ def read(place):
 
 def main():
     program, started = program_named(), time.monotonic()
-    sessions = [session_of_http_client, commits_of_http_client, each_connection_starts_anew]
+    sessions = [session_of_http_client, commits_of_http_client, branches_of_http_client, each_connection_starts_anew]
     if shutil.which("curl"):
-        sessions += [session_of_curl, commits_of_curl]
+        sessions += [session_of_curl, commits_of_curl, branches_of_curl]
     else:
         print("client: the sessions by curl are skipped: there is no curl on PATH")
     count, failures = 0, []

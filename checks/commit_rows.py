@@ -15,11 +15,11 @@ from forms import (
     UNKNOWN_PROJECT,
     E,
     Row,
-    answered,
     bad_body,
     change,
     commit,
     commit_of,
+    created,
     delete_unknown,
     filled,
     found,
@@ -27,6 +27,7 @@ from forms import (
     made,
     mismatch,
     payload,
+    project_record,
     read,
     steps,
     twice,
@@ -119,10 +120,7 @@ def passes(at, identity):
 
 
 def second_project():
-    return answered(
-        "201 Created",
-        f'{{"@id":"#2","@type":"Project","created":"{CREATED}","defaultBranch":{{"@id":"#3"}},"description":null,"name":"P"}}',
-    )
+    return created(project_record("#2", "#3"))
 
 
 def previous():
@@ -174,8 +172,6 @@ def refusals():
         yield steps(f"refused: a project {project}", *FIRST, (stray, UNKNOWN_PROJECT), (NOTHING, made("#5", "#2")))
     shape = (commit('{"change":7}'), bad_body("change"))
     yield steps("refused: a project, behind a wrong body", shape, (NOTHING, UNKNOWN_PROJECT))
-    for more in ("?branchId=x", "?branchId=" + E, "?"):
-        yield steps(f"commits{more}", PROJECT, (commit("{}", more=more), made("#2", None)))
 
 
 def reads():

@@ -109,13 +109,17 @@ def check_responses(expected, ran):
 
 
 def check_response(wanted, wrote, ran, created):
-    """One response: its bytes, and its moments."""
+    """One response: its bytes, and its moments. Where one record stands in it, or a list of them, each has its moment."""
     dates, moments = compared(wanted, wrote)
     for date in dates:
         if not ran.before // 1000 <= second_of_date(date) <= ran.after // 1000:
             raise Wrong(f"Date {date} is not between the clock's readings before and after the run")
-    for moment in moments:
-        check_created(wrote, dates[0], moment, ran, created)
+    if moments:
+        shown = json.loads(wrote.partition(b"\r\n\r\n")[2])
+        records = shown if isinstance(shown, list) else [shown]
+        is_new = wrote.startswith(b"HTTP/1.1 201 ")
+        for record, moment in zip(records, moments):
+            check_created(record, moment, is_new and dates[0], ran, created)
 
 
 def compared(wanted, wrote):
@@ -133,19 +137,19 @@ def compared(wanted, wrote):
     return found[DATE[0]], found[CREATED[0]]
 
 
-def check_created(wrote, date, moment, ran, created):
-    """A record is made at the moment of its request's Date, and shown with that moment ever after."""
-    head, _, body = wrote.partition(b"\r\n\r\n")
-    made = json.loads(body)["@id"]
-    if head.startswith(b"HTTP/1.1 201 "):
+def check_created(record, moment, date, ran, created):
+    """A record is made at the moment of its request's Date, which is told then alone, and shown with that moment ever after.
+
+    A project's default branch is made with it."""
+    if date:
         when = millisecond_of_created(moment)
         if not ran.before <= when <= ran.after:
             raise Wrong(f"created {moment} is not between the clock's readings before and after the run")
         if when // 1000 != second_of_date(date):
             raise Wrong(f"created {moment} and Date {date} are not one moment")
-        created[made] = moment
-    elif created.get(made) != moment:
-        raise Wrong(f"created {moment} is not the moment of the record's first response, {created.get(made)}")
+        created[record["@id"]] = created[record.get("defaultBranch", record)["@id"]] = moment
+    elif created.get(record["@id"]) != moment:
+        raise Wrong(f"created {moment} is not the moment of the record's first response, {created.get(record['@id'])}")
 
 
 def second_of_date(text):
@@ -188,15 +192,33 @@ def made_id(serial):
     return f"00000000-0001-8000-8000-{serial:012x}"
 
 
+def bare(method, path):
+    """A request without a body."""
+    return f"{method} {path} HTTP/1.1\r\nHost: h\r\n\r\n".encode()
+
+
 def get(path):
-    """GET of this path."""
-    return f"GET {path} HTTP/1.1\r\nHost: h\r\n\r\n".encode()
+    return bare("GET", path)
+
+
+def delete(path):
+    return bare("DELETE", path)
+
+
+def filed(method, path, body, length=None, head=b""):
+    """A request with these bytes as its body, with a Content-Length, and further head lines."""
+    told = len(body) if length is None else length
+    first, last = f"{method} {path} HTTP/1.1\r\nHost: h\r\n", f"Content-Length: {told}\r\n\r\n"
+    return first.encode() + head + last.encode() + body
 
 
 def post(body, path="/projects", length=None, head=b""):
-    """POST of these bytes, of a project where no other path is told, with a Content-Length, and further head lines."""
-    told = str(len(body) if length is None else length).encode()
-    return b"POST %s HTTP/1.1\r\nHost: h\r\n%sContent-Length: %s\r\n\r\n%s" % (path.encode(), head, told, body)
+    """POST of these bytes, of a project where no other path is told."""
+    return filed("POST", path, body, length, head)
+
+
+def put(body, path):
+    return filed("PUT", path, body)
 
 
 def commits_of(project):

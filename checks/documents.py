@@ -1,4 +1,4 @@
-"""The bodies of requests, read once more in plain Python: JSON documents, and what the two commands take from them.
+"""The bodies of requests, read once more in plain Python: JSON documents, and what the commands take from them.
 
 The reader is Python's own, with hooks where the program's differs from it.
 """
@@ -18,12 +18,13 @@ BAD_REQUEST = "400 Bad Request"
 
 
 class Refusal(Exception):
-    """A request is refused: the status, and the body of the error with its text and further key."""
+    """A request is refused: the status, the body of the error with its text and further key, and further head lines."""
 
-    def __init__(self, status, error, **more):
+    def __init__(self, status, error, *lines, **more):
         super().__init__(status, error)
         self.status = status
         self.body = written({"@type": "Error", "error": error, **more})
+        self.lines = lines
 
 
 class NotJson(Exception):
@@ -133,11 +134,47 @@ def text_at(found, key):
     return value
 
 
-def project_asked(body):
-    """The name and the description of the project that a body makes."""
+def reference_at(found, key):
+    """The id that the value at a key refers to, or None where null or nothing stands there."""
+    value = found.get(key)
+    demand(value is None or referred(value), key)
+    return referred(value)
+
+
+def object_asked(body):
+    """The object that a body is."""
     found = document(body)
     demand(isinstance(found, dict), "")
+    return found
+
+
+def project_asked(body):
+    """The name and the description of the project that a body makes."""
+    found = object_asked(body)
     return text_at(found, "name"), text_at(found, "description")
+
+
+def update_asked(body):
+    """The name, the description and the default branch that a body gives a project."""
+    found = object_asked(body)
+    return text_at(found, "name"), text_at(found, "description"), reference_at(found, "defaultBranch")
+
+
+def branch_asked(body):
+    """The name and the head of the branch that a body makes. A head that is null is there."""
+    found = object_asked(body)
+    return text_at(found, "name"), reference_at(found, "head" if "head" in found else "referencedCommit")
+
+
+def tag_asked(body):
+    """The name and the commit of the tag that a body makes."""
+    found = object_asked(body)
+    name = text_at(found, "name")
+    is_other = "taggedCommit" not in found and "referencedCommit" in found
+    key = "referencedCommit" if is_other else "taggedCommit"
+    commit = reference_at(found, key)
+    demand(commit, key)
+    return name, commit
 
 
 Asked = collections.namedtuple("Asked", "changes description previous")
@@ -158,8 +195,7 @@ class Change:
 
 def commit_asked(body):
     """The commit that a body asks for."""
-    found = document(body)
-    demand(isinstance(found, dict), "")
+    found = object_asked(body)
     listed = found.get("change")
     listed = [] if listed is None else listed
     demand(isinstance(listed, list) and all(isinstance(it, dict) for it in listed), "change")

@@ -12,10 +12,12 @@ from common import (
     check_end,
     check_responses,
     commits_of,
+    delete,
     element_at,
     get,
     made_id,
     post,
+    put,
     response,
     run,
 )
@@ -36,8 +38,12 @@ TOO_DEEP = response("400 Bad Request", 36, '{"@type":"Error","error":"too-deep"}
 MULTIPLE_PREVIOUS = response("400 Bad Request", 45, '{"@type":"Error","error":"multiple-previous"}')
 NO_ROUTE = response("404 Not Found", 36, '{"@type":"Error","error":"no-route"}')
 UNKNOWN_PROJECT = response("404 Not Found", 43, '{"@type":"Error","error":"unknown-project"}')
+UNKNOWN_BRANCH = response("404 Not Found", 42, '{"@type":"Error","error":"unknown-branch"}')
+UNKNOWN_TAG = response("404 Not Found", 39, '{"@type":"Error","error":"unknown-tag"}')
 UNKNOWN_COMMIT = response("404 Not Found", 42, '{"@type":"Error","error":"unknown-commit"}')
+UNKNOWN_CHANGE = response("404 Not Found", 42, '{"@type":"Error","error":"unknown-change"}')
 UNKNOWN_ELEMENT = response("404 Not Found", 43, '{"@type":"Error","error":"unknown-element"}')
+DEFAULT_BRANCH = response("409 Conflict", 42, '{"@type":"Error","error":"default-branch"}')
 
 E = "11111111-1111-4111-8111-111111111111"
 
@@ -78,18 +84,75 @@ def found(body):
     return answered("200 OK", body)
 
 
-def made(number, previous, project="#0", description="null"):
-    """The response with a new commit's record."""
-    previous = '{"@id":"%s"}' % previous if previous else "null"
-    return answered(
-        "201 Created",
-        f'{{"@id":"{number}","@type":"Commit","created":"{CREATED}","description":{description},'
-        f'"owningProject":{{"@id":"{project}"}},"previousCommit":{previous}}}',
+def created(body):
+    return answered("201 Created", body)
+
+
+def listed(*members):
+    """The response with a page of these members."""
+    return found("[" + ",".join(members) + "]")
+
+
+def reference(identity):
+    """A reference to this id, or null without one."""
+    return '{"@id":"%s"}' % identity if identity else "null"
+
+
+# records: where they take a name or a description, that is its text as a document
+
+
+def project_record(number="#0", branch="#1", name='"P"', description="null"):
+    return (
+        f'{{"@id":"{number}","@type":"Project","created":"{CREATED}","defaultBranch":{reference(branch)},'
+        f'"description":{description},"name":{name}}}'
     )
 
 
-def bad_body(key):
-    return answered("400 Bad Request", '{"@type":"Error","error":"bad-body","key":"%s"}' % key)
+def branch_record(number, head, name='"x"', project="#0"):
+    return (
+        f'{{"@id":"{number}","@type":"Branch","created":"{CREATED}","head":{reference(head)},"name":{name},'
+        f'"owningProject":{reference(project)},"referencedCommit":{reference(head)}}}'
+    )
+
+
+def tag_record(number, tagged, name='"v1"', project="#0"):
+    return (
+        f'{{"@id":"{number}","@type":"Tag","created":"{CREATED}","name":{name},"owningProject":{reference(project)},'
+        f'"referencedCommit":{reference(tagged)},"taggedCommit":{reference(tagged)}}}'
+    )
+
+
+def commit_record(number, previous, project="#0", description="null"):
+    return (
+        f'{{"@id":"{number}","@type":"Commit","created":"{CREATED}","description":{description},'
+        f'"owningProject":{reference(project)},"previousCommit":{reference(previous)}}}'
+    )
+
+
+def version_record(number, identity, shown):
+    """The record of a data version, whose payload is shown by this text."""
+    identity = f'{{"@id":"{identity}","@type":"DataIdentity"}}'
+    return f'{{"@id":"{number}","@type":"DataVersion","identity":{identity},"payload":{shown}}}'
+
+
+def made(number, previous, project="#0", description="null"):
+    """The response with a new commit's record."""
+    return created(commit_record(number, previous, project, description))
+
+
+def wrong_key(error, key):
+    return answered("400 Bad Request", '{"@type":"Error","error":"%s","key":"%s"}' % (error, key))
+
+
+# each takes the key
+bad_body = functools.partial(wrong_key, "bad-body")
+bad_id = functools.partial(wrong_key, "bad-id")
+bad_parameter = functools.partial(wrong_key, "bad-parameter")
+
+
+def no_method(allow):
+    """The response that tells these methods, one after another."""
+    return response("405 Method Not Allowed", 37, '{"@type":"Error","error":"no-method"}', "Allow: " + allow)
 
 
 def wrong_change(status, error, place):
@@ -107,14 +170,31 @@ def head_moved(head):
     return answered("409 Conflict", '{"@type":"Error","error":"head-moved","head":%s}' % head)
 
 
+def gets(path):
+    """GET of a path in the short form; the next three have it too."""
+    return get(filled(path))
+
+
+def deletes(path):
+    return delete(filled(path))
+
+
+def posts(path, body):
+    return post(filled(body).encode(), filled(path))
+
+
+def puts(path, body):
+    return put(filled(body).encode(), filled(path))
+
+
 def commit(body, project="#0", more=""):
     """POST of a commit of a project, the first one where none is told, with more behind the path."""
     return post(filled(body).encode(), commits_of(filled(project)) + more)
 
 
-def commit_of(*changes):
-    """POST of a commit of these changes."""
-    return commit('{"change":[%s]}' % ",".join(changes))
+def commit_of(*changes, branch=None):
+    """POST of a commit of these changes, to the default branch where no other is told."""
+    return commit('{"change":[%s]}' % ",".join(changes), more=filled(f"?branchId={branch}") if branch else "")
 
 
 def change(identity, payload):

@@ -11,6 +11,7 @@ import itertools
 import json
 import os
 import random
+import re
 import time
 
 import model
@@ -20,13 +21,16 @@ from common import (
     check_responses,
     commits_of,
     conclude,
+    delete,
     element_at,
     get,
     made_id,
     post,
     program_named,
+    put,
     run,
 )
+from documents import ID
 
 SEED = 20_000_101
 
@@ -38,13 +42,21 @@ MAKES = post(b'{"change":[{"payload":{"n":1}}],"previousCommit":null}', COMMITS)
 REPLACES = post(b'{"change":[{"payload":{"@id":"%s","n":2}}]}' % made_id(4).encode(), COMMITS)
 ELEMENT = get(element_at(made_id(0), made_id(2), made_id(4)))
 HEAD = b"HEAD /projects HTTP/1.1\r\nHost: h\r\n\r\n"
-NO_ROUTE = b"PUT /projects?x HTTP/1.1\nhost:h\nConnection: Keep-Alive\ncontent-length: 4\n\nbody"
+NO_METHOD = b"PUT /projects?x HTTP/1.1\nhost:h\nConnection: Keep-Alive\ncontent-length: 4\n\nbody"
 ABSOLUTE = b"GET http://h/projects HTTP/1.1\r\nHost: h\r\n\r\n"
 BAD_BODY = b"POST /projects?a=b?c HTTP/1.1\r\nHost: h\r\nAccept: */*\r\nContent-Length: 1\r\n\r\n{"
 CHUNKED = b"POST /projects HTTP/1.1\r\nHost: h\r\nTransfer-Encoding: chunked\r\n\r\n2\r\n{}\r\n0\r\n\r\n"
 OLD = b"GET /projects HTTP/1.0\r\nHost: h\r\n\r\n"
-REQUESTS = [POST_P, POST_P, GET_0, HEAD, NO_ROUTE, ABSOLUTE, BAD_BODY, CHUNKED, OLD, MAKES, REPLACES, ELEMENT]
-GOOD = POST_P + GET_0 + HEAD + NO_ROUTE + ABSOLUTE + MAKES + BAD_BODY + REPLACES + ELEMENT
+UPDATE = put(b'{"name":"Q","defaultBranch":{"@id":"%s"}}' % made_id(1).encode(), f"/projects/{made_id(0)}")
+BRANCH = post(b'{"name":"x","head":{"@id":"%s"}}' % made_id(2).encode(), f"/projects/{made_id(0)}/branches")
+TAG = post(b'{"taggedCommit":{"@id":"%s"}}' % made_id(2).encode(), f"/projects/{made_id(0)}/tags")
+LIST = get(f"{COMMITS}?branchId={made_id(1)}")
+CHANGES = get(f"{COMMITS}/{made_id(2)}/changes")
+LOST = delete(f"/projects/{made_id(0)}/branches/{made_id(7)}")
+GONE = delete(f"/projects/{made_id(0)}")
+REQUESTS = [POST_P, POST_P, GET_0, HEAD, NO_METHOD, ABSOLUTE, BAD_BODY, CHUNKED, OLD, MAKES, REPLACES, ELEMENT]
+REQUESTS += [UPDATE, BRANCH, TAG, LIST, CHANGES, LOST, GONE]
+GOOD = POST_P + GET_0 + HEAD + NO_METHOD + ABSOLUTE + MAKES + BAD_BODY + REPLACES + ELEMENT + BRANCH + LIST + LOST + GONE
 
 # bytes that mean something in a head or in a document, and a few that never do
 TELLING = b"\r\n\r\n  \t:/?#{}[]\",\\0159-+.eEpPHh\x00\x7f\x80\xc3\xff"
@@ -67,6 +79,22 @@ def late_bytes():
     for place in range(len(body)):
         several = [post(it, COMMITS) for it in each_byte(body, place, TELLING)]
         yield f"each telling byte at {place} of a commit", POST_P + b"".join(several) + ELEMENT
+    for request in (UPDATE, BRANCH, TAG):
+        head, body = request.split(b"\r\n\r\n")
+        for place in range(len(body)):
+            several = [head + b"\r\n\r\n" + it for it in each_byte(body, place, TELLING)]
+            yield f"each telling byte at {place} of {body[:8]!r}", POST_P + MAKES + b"".join(several) + LIST + CHANGES
+
+
+def targets():
+    """Targets with a byte changed, added or dropped, in every place."""
+    values = (b"", b"%2", b"\xc3\xa9", *(bytes([it]) for it in b"/?#&=%+.;-x0A{*"))
+    for request in (LIST, get(f"{COMMITS}/{made_id(2)}/changes/{made_id(3)}"), LOST, ABSOLUTE):
+        before, target, after = request.split(b" ", 2)
+        for value in values:
+            changed = [target[:it] + value + target[it + kept :] for it in range(len(target)) for kept in (0, 1)]
+            stream = b"".join(b" ".join((before, it, after)) for it in changed if it)
+            yield f"targets of {request[:20]!r} with {value!r}", POST_P + MAKES + BRANCH + stream
 
 
 def each_byte(body, place, values):
@@ -207,6 +235,10 @@ def drawn_text(draws):
     return "".join(draws.choices(letters, k=draws.randrange(12))) + surrogate
 
 
+def in_json(body):
+    return json.dumps(body, ensure_ascii=False).encode()
+
+
 def plain_text(draws):
     """Such a text without half a letter."""
     return drawn_text(draws).replace("\ud800", "")
@@ -229,45 +261,113 @@ class Session:
         self.repository.answer(model.front(request, 0)[0])
 
     def draw_request(self):
-        kind = self.draws.randrange(20)
         projects = list(self.repository.projects) or [made_id(0)]
-        project = self.draws.choice(projects[:1] * 4 + projects) if kind else self.drawn_id()
-        if kind == 1:
-            self.add(post(b'{"name":"Q"}'))
-        elif kind == 2:
-            self.add(get(f"/projects/{project}"))
-        elif kind < 12:
-            body = json.dumps(self.commit_body(project), ensure_ascii=False).encode()
-            self.add(post(body, self.spelled(commits_of(project)) + self.draws.choice(("", "", "?branchId=x"))))
-        else:
-            self.add(get(self.spelled(element_at(project, self.some_commit(project), self.some_identity(project)))))
+        project = self.draws.choice(projects[:1] * 4 + projects) if self.draws.random() < 0.95 else self.drawn_id()
+        (kind,) = self.draws.choices(list(KINDS), KINDS.values())
+        self.add(kind(self, project))
 
-    def spelled(self, path):
-        """A path, at times with its ids in upper case, or with one byte less."""
-        kind = self.draws.randrange(30)
+    def new_project(self, _):
+        return post(b'{"name":"Q"}')
+
+    def new_commit(self, project):
+        branch = self.some_branch(project) if self.draws.random() < 0.6 else None
+        wrong = self.draws.choice(("?branchId=x", "?branchId", "?x=y&branchId=%22", f"?branchId={branch}&branchId={branch}"))
+        query = wrong if self.draws.random() < 0.05 else f"?branchId={branch}" if branch else ""
+        return post(in_json(self.commit_body(project, branch)), self.spelled(commits_of(project) + query))
+
+    def new_branch(self, project):
+        """POST of a branch, mostly with a head."""
+        body = self.name_and_more({self.draw_key("head", "referencedCommit"): self.referred(self.some_commit(project))})
+        return post(in_json(body), self.spelled(f"/projects/{project}/branches"))
+
+    def new_tag(self, project):
+        body = self.name_and_more({self.draw_key("taggedCommit", "referencedCommit"): self.referred(self.some_commit(project))})
+        return post(in_json(body), self.spelled(f"/projects/{project}/tags"))
+
+    def update(self, project):
+        body = self.name_and_more({"description": plain_text(self.draws)})
+        if self.draws.random() < 0.6:
+            body["defaultBranch"] = self.referred(self.some_branch(project))
+        return put(in_json(body), self.spelled(f"/projects/{project}"))
+
+    def removal(self, project):
+        """DELETE of a branch, of a tag, or now and then of the project."""
+        paths = [f"/branches/{self.some_branch(project)}", f"/tags/{self.some_tag(project)}", ""]
+        (path,) = self.draws.choices(paths, (4, 4, 1))
+        return delete(self.spelled(f"/projects/{project}{path}"))
+
+    def element(self, project):
+        return get(self.spelled(element_at(project, self.some_commit(project), self.some_identity(project))))
+
+    def look(self, project):
+        """GET of a list or of a record."""
+        commit, branch = self.some_commit(project), self.some_branch(project)
+        several = ["", "/branches", f"/branches/{branch}", "/tags", f"/tags/{self.some_tag(project)}", "/commits"]
+        several += [f"/commits?branchId={branch}", f"/commits/{commit}", f"/commits/{commit}/changes"]
+        several.append(f"/commits/{commit}/changes/{self.some_version(project, commit)}")
+        path = f"/projects/{project}{self.draws.choice(several)}" if self.draws.random() < 0.95 else "/projects"
+        asked = get(self.spelled(path))
+        return asked.replace(b"GET", self.draws.choice((b"HEAD", b"PATCH", b"get"))) if self.draws.random() < 0.03 else asked
+
+    def spelled(self, target):
+        """A target, at times with its ids in upper case, in absolute form, with one byte less, or with another one."""
+        kind = self.draws.randrange(50)
         if kind == 0:
-            return path[:-1]
-        return path.replace("a", "A").replace("b", "B").replace("f", "F") if kind == 1 else path
+            return target[:-1]
+        if kind == 1:
+            place = self.draws.randrange(len(target))
+            return target[:place] + self.draws.choice("/?#&=%x0A-") + target[place + 1 :]
+        if kind == 2:
+            return "http://h" + target
+        return re.sub(ID, lambda it: it[0].upper(), target) if kind < 5 else target
+
+    def name_and_more(self, body):
+        """A body of a name and more, now and then of a wrong shape."""
+        if self.draws.random() < 0.8:
+            body["name"] = plain_text(self.draws)
+        if self.draws.random() < 0.1:
+            body[self.draws.choice((*body, "name", "head", "taggedCommit", "defaultBranch", "x"))] = self.wrong()
+        return body
+
+    def draw_key(self, usual, other):
+        return usual if self.draws.random() < 0.8 else other
+
+    def referred(self, identity):
+        return {"@id": identity} if self.draws.random() < 0.9 else None
 
     def known(self, project):
-        return self.repository.projects.get(project, model.Project({}))
+        none = {"@id": project, "defaultBranch": {"@id": made_id(1)}}
+        return self.repository.projects.get(project, model.Project(none))
 
     def drawn_id(self):
         return made_id(self.draws.randrange(self.repository.serial + 4))
 
+    def some(self, several):
+        """One of these ids, mostly."""
+        several = sorted(several)
+        return self.draws.choice(several) if several and self.draws.random() < 0.93 else self.drawn_id()
+
     def some_commit(self, project):
-        commits = list(self.known(project).commits)
-        return self.draws.choice(commits) if commits and self.draws.random() < 0.95 else self.drawn_id()
+        return self.some(self.known(project).commits)
+
+    def some_branch(self, project):
+        return self.some(self.known(project).branches)
+
+    def some_tag(self, project):
+        return self.some(self.known(project).tags)
+
+    def some_version(self, project, commit):
+        found = self.known(project).commits.get(commit)
+        return self.some(found.versions if found else ())
 
     def some_identity(self, project):
-        identities = sorted(self.known(project).identities)
-        return self.draws.choice(identities) if identities and self.draws.random() < 0.9 else self.drawn_id()
+        return self.some(self.known(project).identities)
 
-    def commit_body(self, project):
-        """A body that asks for a commit, now and then of a wrong shape."""
+    def commit_body(self, project, branch):
+        """A body that asks for a commit on a branch, now and then of a wrong shape."""
         body = {"change": [self.change(project) for _ in range(self.draws.choice((0, 1, 1, 1, 2, 2, 3, 6)))]}
         if self.draws.random() < 0.5:
-            body["previousCommit"] = self.previous(project)
+            body["previousCommit"] = self.previous(project, branch)
         if self.draws.random() < 0.2:
             body["description"] = plain_text(self.draws)
         if self.draws.random() < 0.1:
@@ -278,10 +378,11 @@ class Session:
         """A value that is wrong in most places."""
         return self.draws.choice((7, "", [], {}, False, None, [None], [{}], {"@id": "x"}, 1.5))
 
-    def previous(self, project):
+    def previous(self, project, branch):
         """The branch's head, mostly."""
-        head, other = self.known(project).head, {"@id": self.some_commit(project)}
-        right = head and {"@id": head}
+        known, other = self.known(project), {"@id": self.some_commit(project)}
+        found = known.branches.get(branch or known.default_branch())
+        right = found and found.record["head"]
         return self.draws.choice((right, right, right, [right] if right else [], [], other, [right or other, other]))
 
     def change(self, project):
@@ -309,14 +410,20 @@ class Session:
         return payload
 
 
+# the kinds of requests that are drawn, and how often of each
+KINDS = {
+    Session.new_project: 1, Session.new_commit: 9, Session.new_branch: 2, Session.new_tag: 2, Session.update: 1,
+    Session.removal: 2, Session.element: 6, Session.look: 9,
+}  # fmt: skip
+
 # the types of payloads that are drawn: an element's, and those that are no elements or no types
 TYPES = ("Part", "ExternalData", "ExternalRelationship", "ProjectUsage", ["ProjectUsage"], None)
 
 
-def commits():
-    """Sessions of commits and reads. Each is drawn by the worker that checks it, from a seed of its own."""
-    for number in range(600):
-        yield f"commits {number}", functools.partial(drawn_session, number)
+def sessions():
+    """Sessions of all kinds of requests. Each is drawn by the worker that checks it, from a seed of its own."""
+    for number in range(900):
+        yield f"session {number}", functools.partial(drawn_session, number)
 
 
 def drawn_session(number):
@@ -324,7 +431,9 @@ def drawn_session(number):
     draws = random.Random(SEED + number)
     session = Session(draws)
     session.add(POST_P)
-    for _ in range(draws.randint(3, 40)):
+    if number % 5:
+        session.add(MAKES)
+    for _ in range(draws.randint(3, 50)):
         session.draw_request()
     stream = bytearray(session.stream)
     if number % 4 == 2:
@@ -349,10 +458,22 @@ def long_commits():
     yield f"an identity behind {n} others", POST_P + post(b'{"change":[{"payload":{}},%s]}' % passed, COMMITS) + late
 
 
+def long_lists():
+    """Many branches, tags, commits, changes and projects, and their lists."""
+    n = 500
+    one = f"/projects/{made_id(0)}"
+    yield f"{n} branches", POST_P + MAKES + BRANCH * n + get(one + "/branches") + get(f"{one}/branches/{made_id(n)}") + LOST * 2
+    yield f"{n} tags", POST_P + MAKES + TAG * n + get(one + "/tags") + get(f"{one}/tags/{made_id(n)}")
+    yield f"{n} commits", POST_P + post(b"{}", COMMITS) * n + get(COMMITS) + LIST + get(f"{COMMITS}/{made_id(n)}")
+    several = post(b'{"change":[%s]}' % b",".join([b'{"payload":{}}'] * n), COMMITS)
+    yield f"{n} changes", POST_P + several + CHANGES + get(f"{COMMITS}/{made_id(2)}/changes/{made_id(n - 1)}")
+    yield f"{n} projects", POST_P * n + get("/projects") + GONE * 2 + get("/projects")
+
+
 def streams():
     """The name of each stream, and the stream or what draws it."""
     draws = random.Random(SEED)
-    for group in (early_bytes, late_bytes, cuts, doubled, long_heads, lengths, long_commits, commits):
+    for group in (early_bytes, late_bytes, targets, cuts, doubled, long_heads, lengths, long_commits, long_lists, sessions):
         yield from group()
     for group in (mutated, noise, documents):
         yield from group(draws)

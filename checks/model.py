@@ -5,9 +5,20 @@ It has no clock: its responses have common.py's marks where moments stand.
 """
 
 import re
+from urllib.parse import unquote_plus
 
 from common import CREATED, CUT_SHORT, REFUSED, made_id, response
-from documents import BAD_REQUEST, ID, Refusal, commit_asked, project_asked, written
+from documents import (
+    BAD_REQUEST,
+    Refusal,
+    branch_asked,
+    commit_asked,
+    id_of,
+    project_asked,
+    tag_asked,
+    update_asked,
+    written,
+)
 
 HEAD_MOST = 16_384
 FIELDS_MOST = 64
@@ -98,134 +109,265 @@ def told(status, body, *more):
     return response(status, len(body.encode("utf-8")), body, *more)
 
 
-def record_told(status, record):
-    """The response with a new record, or one that was looked up, whose `created` is the moment of its request."""
-    return told(status, written({**record, "created": ""}).replace('"created":""', f'"created":"{CREATED}"', 1))
+def shown(record):
+    """The text of a record, whose `created` is the moment of the request that made it."""
+    return written({**record, "created": ""}).replace('"created":""', f'"created":"{CREATED}"', 1)
+
+
+def made(record):
+    return told("201 Created", shown(record))
+
+
+def found(record):
+    return told("200 OK", shown(record))
+
+
+def listed(texts):
+    """The page of these members, each a text."""
+    return told("200 OK", "[" + ",".join(texts) + "]")
+
+
+def reference(identity):
+    return identity and {"@id": identity}
 
 
 class Commit:
-    """A commit: the one before it, and the payload of each identity that it changes, None where it deletes it."""
+    """A commit: its record, the one before it, and its data versions, whose payload is None where they delete."""
 
-    def __init__(self, previous, changes):
+    def __init__(self, record, previous, versions):
+        self.record = record
         self.previous = previous
-        self.changes = changes
+        self.versions = {it["@id"]: it for it in versions}
+        self.payloads = {it["identity"]["@id"]: it["payload"] for it in versions}
+
+    def ancestry(self):
+        """This commit, and the ones before it."""
+        it = self
+        while it:
+            yield it
+            it = it.previous
 
     def own(self, identity):
         """The payload of an identity by the last change of it down the ancestry, or None."""
-        it = self
-        while it:
-            if identity in it.changes:
-                return it.changes[identity]
-            it = it.previous
-        return None
+        return next((it.payloads[identity] for it in self.ancestry() if identity in it.payloads), None)
+
+
+class Branch:
+    """A branch: its record but for the head, and the commit that is its head, or None."""
+
+    def __init__(self, record, head):
+        self.fixed = record
+        self.head = head
+
+    def head_id(self):
+        return self.head and self.head.record["@id"]
+
+    @property
+    def record(self):
+        head = reference(self.head_id())
+        return {**self.fixed, "head": head, "referencedCommit": head}
+
+    def own(self, identity):
+        """The own value of an identity at the head."""
+        return self.head and self.head.own(identity)
 
 
 class Project:
-    """A project: its record, its commits by id, the id of its branch's head, and all identities of its changes."""
+    """A project: its record, its branches, commits and records of tags by id, and all identities of its changes."""
 
     def __init__(self, record):
         self.record = record
-        self.commits = {}
-        self.head = None
+        self.branches, self.tags, self.commits = {}, {}, {}
         self.identities = set()
 
-    def own(self, identity):
-        """The own value of an identity at the branch's head."""
-        return self.commits[self.head].own(identity) if self.head else None
+    def default_branch(self):
+        return self.record["defaultBranch"]["@id"]
 
-    def judge(self, asked):
-        """Refuses a commit by the first row that holds, a row of the changes at its least place."""
-        if len(asked.previous) > 1:
-            raise Refusal(BAD_REQUEST, "multiple-previous")
-        if asked.previous and asked.previous[0] != self.head:
-            raise Refusal("409 Conflict", "head-moved", head=self.head and {"@id": self.head})
-        identities = [change.identity for change in asked.changes]
-        rows = [
-            (BAD_REQUEST, "identity-mismatch", lambda _, it: it.given and it.own and it.given != it.own),
-            (BAD_REQUEST, "identity-twice", lambda place, it: it.identity and it.identity in identities[:place]),
-            ("409 Conflict", "delete-unknown", lambda _, it: it.payload is None and self.own(it.identity) is None),
-            ("409 Conflict", "unknown-pin", lambda _, it: it.payload and it.payload.get("@type") == "ProjectUsage"),
-        ]
-        for status, text, holds in rows:
-            for place, change in enumerate(asked.changes):
-                if holds(place, change):
-                    raise Refusal(status, text, place=place)
+    def branch(self, asked):
+        return known(self.branches, asked, "unknown-branch")
+
+    def tag(self, asked):
+        return known(self.tags, asked, "unknown-tag")
+
+    def commit(self, asked):
+        return known(self.commits, asked, "unknown-commit")
+
+
+def known(several, asked, error):
+    """The one with this id, which must be there."""
+    if asked not in several:
+        raise Refusal("404 Not Found", error)
+    return several[asked]
+
+
+def in_order(several):
+    """All of these, in the order of their ids."""
+    return [several[it] for it in sorted(several)]
+
+
+def judge(asked, branch):
+    """Refuses a commit by the first row that holds, a row of the changes at its least place."""
+    if len(asked.previous) > 1:
+        raise Refusal(BAD_REQUEST, "multiple-previous")
+    if asked.previous and asked.previous[0] != branch.head_id():
+        raise Refusal("409 Conflict", "head-moved", head=reference(branch.head_id()))
+    identities = [change.identity for change in asked.changes]
+    rows = [
+        (BAD_REQUEST, "identity-mismatch", lambda _, it: it.given and it.own and it.given != it.own),
+        (BAD_REQUEST, "identity-twice", lambda place, it: it.identity and it.identity in identities[:place]),
+        ("409 Conflict", "delete-unknown", lambda _, it: it.payload is None and branch.own(it.identity) is None),
+        ("409 Conflict", "unknown-pin", lambda _, it: it.payload and it.payload.get("@type") == "ProjectUsage"),
+    ]
+    for status, text, holds in rows:
+        for place, change in enumerate(asked.changes):
+            if holds(place, change):
+                raise Refusal(status, text, place=place)
 
 
 class Repository:
-    """The projects of one run, and the next serial."""
+    """The projects of one run, and the next serial. A call takes the request, and then the ids of its path."""
 
     def __init__(self):
         self.projects = {}
         self.serial = 0
 
-    def draw(self, known=()):
-        """A new id, of the least serial from the next one on whose id isn't known."""
-        while made_id(self.serial) in known:
+    def draw(self, taken=()):
+        """A new id, of the least serial from the next one on whose id isn't taken."""
+        while made_id(self.serial) in taken:
             self.serial += 1
         self.serial += 1
         return made_id(self.serial - 1)
 
     def answer(self, request):
         try:
-            return self.accepted(request)
+            call, *ids = routed(request)
+            return call(self, request, *ids)
         except Refusal as why:
-            refused = told(why.status, why.body)
+            refused = told(why.status, why.body, *why.lines)
             # (a response to HEAD has no body)
             return refused.split("{", 1)[0] if request.method == b"HEAD" else refused
 
-    def accepted(self, request):
-        """The response to a request that isn't refused. A target with a scheme has no route."""
-        path = request.target.split("?", 1)[0]
-        for method, form, call in ROUTES:
-            found = form.fullmatch(path)
-            if found and request.method == method:
-                ids = [it.lower() for it in found.groups()]
-                return call(self, request.body, *ids) if method == b"POST" else call(self, *ids)
-        raise Refusal("404 Not Found", "no-route")
-
     def project(self, asked):
-        if asked not in self.projects:
-            raise Refusal("404 Not Found", "unknown-project")
-        return self.projects[asked]
+        return known(self.projects, asked, "unknown-project")
 
-    def make_project(self, body):
-        name, description = project_asked(body)
+    def all_projects(self, _):
+        return listed(shown(it.record) for it in in_order(self.projects))
+
+    def make_project(self, request):
+        name, description = project_asked(request.body)
         record = {"@id": self.draw(), "@type": "Project", "defaultBranch": {"@id": self.draw()}}
         record.update(description=description, name=name)
-        self.projects[record["@id"]] = Project(record)
-        return record_told("201 Created", record)
+        project = self.projects[record["@id"]] = Project(record)
+        self.add_branch(project, project.default_branch(), None, None)
+        return made(record)
 
-    def one_project(self, asked):
-        return record_told("200 OK", self.project(asked).record)
+    def one_project(self, _, asked):
+        return found(self.project(asked).record)
 
-    def make_commit(self, body, asked_project):
-        asked = commit_asked(body)
-        project = self.project(asked_project)
-        project.judge(asked)
-        record = {"@id": self.draw(), "@type": "Commit", "description": asked.description}
-        record.update(owningProject={"@id": asked_project}, previousCommit=project.head and {"@id": project.head})
-        changes = self.changes_made(project, asked.changes)
-        project.commits[record["@id"]] = Commit(project.commits.get(project.head), changes)
-        project.head = record["@id"]
-        return record_told("201 Created", record)
+    def update_project(self, request, asked):
+        name, description, branch = update_asked(request.body)
+        project = self.project(asked)
+        if branch:
+            project.branch(branch)
+            project.record["defaultBranch"] = {"@id": branch}
+        project.record.update(description=description, name=name)
+        return found(project.record)
 
-    def changes_made(self, project, changes):
-        """The changes as they are stored. Each draws an id for its data version, and one for its identity if it has none."""
+    def delete_project(self, _, asked):
+        gone = found(self.project(asked).record)
+        del self.projects[asked]
+        return gone
+
+    def all_branches(self, _, asked):
+        return listed(shown(it.record) for it in in_order(self.project(asked).branches))
+
+    def add_branch(self, project, branch, name, head):
+        record = {"@id": branch, "@type": "Branch", "name": name, "owningProject": {"@id": project.record["@id"]}}
+        project.branches[branch] = Branch(record, head)
+        return project.branches[branch]
+
+    def make_branch(self, request, asked):
+        name, head = branch_asked(request.body)
+        project = self.project(asked)
+        head = head and project.commit(head)
+        return made(self.add_branch(project, self.draw(), name, head).record)
+
+    def one_branch(self, _, asked, branch):
+        return found(self.project(asked).branch(branch).record)
+
+    def delete_branch(self, _, asked, branch):
+        project = self.project(asked)
+        gone = project.branch(branch)
+        if branch == project.default_branch():
+            raise Refusal("409 Conflict", "default-branch")
+        del project.branches[branch]
+        return found(gone.record)
+
+    def all_tags(self, _, asked):
+        return listed(map(shown, in_order(self.project(asked).tags)))
+
+    def make_tag(self, request, asked):
+        name, commit = tag_asked(request.body)
+        project = self.project(asked)
+        project.commit(commit)
+        record = {"@id": self.draw(), "@type": "Tag", "name": name, "owningProject": {"@id": asked}}
+        record.update(referencedCommit={"@id": commit}, taggedCommit={"@id": commit})
+        project.tags[record["@id"]] = record
+        return made(record)
+
+    def one_tag(self, _, asked, tag):
+        return found(self.project(asked).tag(tag))
+
+    def delete_tag(self, _, asked, tag):
+        project = self.project(asked)
+        gone = project.tag(tag)
+        del project.tags[tag]
+        return found(gone)
+
+    def all_commits(self, request, asked):
+        branch = branch_parameter(request)
+        project = self.project(asked)
+        several = project.commits
+        if branch:
+            head = project.branch(branch).head
+            several = {it.record["@id"]: it for it in (head.ancestry() if head else ())}
+        return listed(shown(it.record) for it in in_order(several))
+
+    def make_commit(self, request, asked):
+        branch = branch_parameter(request)
+        wanted = commit_asked(request.body)
+        project = self.project(asked)
+        branch = project.branch(branch or project.default_branch())
+        judge(wanted, branch)
+        record = {"@id": self.draw(), "@type": "Commit", "description": wanted.description}
+        record.update(owningProject={"@id": asked}, previousCommit=reference(branch.head_id()))
+        branch.head = Commit(record, branch.head, self.versions_made(project, wanted.changes))
+        project.commits[record["@id"]] = branch.head
+        return made(record)
+
+    def versions_made(self, project, changes):
+        """The data versions of a commit. Each draws an id, and one for its identity if it has none."""
         project.identities.update(change.identity for change in changes if change.identity)
-        made = {}
+        versions = []
         for change in changes:
-            self.draw()
+            version = {"@id": self.draw(), "@type": "DataVersion"}
             identity = change.identity or self.draw(project.identities)
             project.identities.add(identity)
-            made[identity] = None if change.payload is None else {**change.payload, "@id": identity}
-        return made
+            payload = None if change.payload is None else {**change.payload, "@id": identity}
+            versions.append({**version, "identity": {"@id": identity, "@type": "DataIdentity"}, "payload": payload})
+        return versions
 
-    def one_element(self, asked_project, commit, identity):
-        project = self.project(asked_project)
-        if commit not in project.commits:
-            raise Refusal("404 Not Found", "unknown-commit")
-        payload = project.commits[commit].own(identity)
+    def one_commit(self, _, asked, commit):
+        return found(self.project(asked).commit(commit).record)
+
+    def all_changes(self, _, asked, commit):
+        return listed(written(it) for it in in_order(self.project(asked).commit(commit).versions))
+
+    def one_change(self, _, asked, commit, version):
+        return told("200 OK", written(known(self.project(asked).commit(commit).versions, version, "unknown-change")))
+
+    def one_element(self, _, asked, commit, identity):
+        payload = self.project(asked).commit(commit).own(identity)
         if payload is None or payload.get("@type") in NO_ELEMENTS:
             raise Refusal("404 Not Found", "unknown-element")
         return told("200 OK", written(payload))
@@ -234,15 +376,59 @@ class Repository:
 # data of these types are no elements
 NO_ELEMENTS = ("ProjectUsage", "ExternalData", "ExternalRelationship")
 
-ROUTES = [
-    (method, re.compile(form.replace("ID", f"({ID})")), call)
-    for method, form, call in (
-        (b"POST", "/projects", Repository.make_project),
-        (b"GET", "/projects/ID", Repository.one_project),
-        (b"POST", "/projects/ID/commits", Repository.make_commit),
-        (b"GET", "/projects/ID/commits/ID/elements/ID", Repository.one_element),
-    )
-]
+# the paths, and of each the methods in the order in which they are told
+ROUTES = {
+    "/projects": {"GET": Repository.all_projects, "POST": Repository.make_project},
+    "/projects/{projectId}": {
+        "GET": Repository.one_project,
+        "PUT": Repository.update_project,
+        "DELETE": Repository.delete_project,
+    },
+    "/projects/{projectId}/branches": {"GET": Repository.all_branches, "POST": Repository.make_branch},
+    "/projects/{projectId}/branches/{branchId}": {"GET": Repository.one_branch, "DELETE": Repository.delete_branch},
+    "/projects/{projectId}/tags": {"GET": Repository.all_tags, "POST": Repository.make_tag},
+    "/projects/{projectId}/tags/{tagId}": {"GET": Repository.one_tag, "DELETE": Repository.delete_tag},
+    "/projects/{projectId}/commits": {"GET": Repository.all_commits, "POST": Repository.make_commit},
+    "/projects/{projectId}/commits/{commitId}": {"GET": Repository.one_commit},
+    "/projects/{projectId}/commits/{commitId}/changes": {"GET": Repository.all_changes},
+    "/projects/{projectId}/commits/{commitId}/changes/{changeId}": {"GET": Repository.one_change},
+    "/projects/{projectId}/commits/{commitId}/elements/{elementId}": {"GET": Repository.one_element},
+}
+
+
+def path_and_query(target):
+    """The path of a target, and what follows its first question mark. A path without a slash first has no route."""
+    if target.startswith("http://"):
+        target = re.sub("http://[^/?#]*", "", target, count=1)
+    path, _, query = target.partition("?")
+    return path, query
+
+
+def routed(request):
+    """The call of a request and the ids of its path, or the first reason why it has none."""
+    path = path_and_query(request.target)[0].split("/")
+    for form, methods in ROUTES.items():
+        parts = list(zip(form.split("/"), path))
+        if len(path) != form.count("/") + 1 or not all(part if key[:1] == "{" else part == key for key, part in parts):
+            continue
+        call = methods.get(request.method.decode("ascii"))
+        if not call:
+            raise Refusal("405 Method Not Allowed", "no-method", "Allow: " + ", ".join(methods))
+        ids = [(key.strip("{}"), id_of(part)) for key, part in parts if key[:1] == "{"]
+        for key, identity in ids:
+            if not identity:
+                raise Refusal(BAD_REQUEST, "bad-id", key=key)
+        return call, *[identity for _, identity in ids]
+    raise Refusal("404 Not Found", "no-route")
+
+
+def branch_parameter(request):
+    """The id that the parameter branchId has, or None without it."""
+    pairs = [it.partition("=") for it in path_and_query(request.target)[1].split("&")]
+    values = [unquote_plus(value) for key, _, value in pairs if unquote_plus(key) == "branchId"]
+    if values and (len(values) > 1 or not id_of(values[0])):
+        raise Refusal(BAD_REQUEST, "bad-parameter", key="branchId")
+    return id_of(values[0]) if values else None
 
 
 def session(stream):

@@ -7,7 +7,10 @@ and common.py judges those. Usage: rows.py [PROGRAM]
 import os
 import time
 
+import branch_rows
 import commit_rows
+import page_rows
+import route_rows
 from common import (
     CREATED,
     CUT_SHORT,
@@ -33,12 +36,10 @@ from forms import (
     UNKNOWN_PROJECT,
     Row,
     bad_body,
-    filled,
 )
 
 GET_1 = b"GET /projects/00000000-0001-8000-8000-000000000001 HTTP/1.1\r\nHost: h\r\n\r\n"
 
-NO_ROUTE_HEAD = response("404 Not Found", 36, "")
 BAD_HEAD = response("400 Bad Request", 36, '{"@type":"Error","error":"bad-head"}', "Connection: close")
 UNKNOWN_CODING = response("501 Not Implemented", 42, '{"@type":"Error","error":"unknown-coding"}', "Connection: close")
 
@@ -75,51 +76,6 @@ def bare_project():
         '"defaultBranch":{"@id":"00000000-0001-8000-8000-000000000001"},"description":null,"name":null}'
     )
     return response("201 Created", 195, body)
-
-
-def routes():
-    """Requests that are answered 404, for a path or a method that isn't served; the session goes on after each."""
-    for method, path in (
-        ("GET", "/projects"),
-        ("PATCH", "/projects"),
-        ("POST", "/projects/00000000-0001-8000-8000-000000000000"),
-        ("GET", "/projects/#0/commits"),
-        ("PUT", "/projects/#0/commits"),
-        ("POST", "/projects/#0/commits/"),
-        ("POST", "/projects/#0/Commits"),
-        ("POST", "/projects/x/commits"),
-        ("POST", "/projects//commits"),
-        ("POST", "/projects/commits"),
-        ("GET", "/projects/#0/commits/#2"),
-        ("GET", "/projects/#0/commits/#2/elements"),
-        ("GET", "/projects/#0/commits/#2/elements/"),
-        ("GET", "/projects/#0/commits/#2/roots/#4"),
-        ("GET", "/projects/#0/commits/#2/elements/#4/"),
-        ("GET", "/projects/#0/commits/#2/elements/#4/owner"),
-        ("GET", "/projects/#0/commits/#2/elements/x"),
-        ("GET", "/projects/#0/commits/x/elements/#4"),
-        ("GET", "/projects/x/commits/#2/elements/#4"),
-        ("GET", "/projects/#0/commits/#2#3/elements/#4"),
-        ("GET", "/projects/#0/commits//elements/#4"),
-        ("GET", "//projects/#0/commits/#2/elements/#4"),
-        ("get", "/projects/#0/commits/#2/elements/#4"),
-        ("POST", "/projects/#0/commits/#2/elements/#4"),
-        ("DELETE", "/projects/00000000-0001-8000-8000-000000000000"),
-        ("GET", "/projects/x"),
-        ("GET", "/projects/00000000-0001-8000-8000-000000000000/"),
-        ("GET", "/projects/00000000000180008000000000000000"),
-        ("get", "/projects/00000000-0001-8000-8000-000000000000"),
-        ("OPTIONS", "*"),
-    ):
-        stream = f"{method} {filled(path)} HTTP/1.1\r\nHost: h\r\n\r\n".encode()
-        yield Row(f"no route: {method} {path}", stream + POST_P, [NO_ROUTE, MADE_P])
-    head = b"HEAD /projects HTTP/1.1\r\nHost: h\r\n\r\n"
-    yield Row("HEAD has the head alone", head + head + POST_P, [NO_ROUTE_HEAD, NO_ROUTE_HEAD, MADE_P])
-    yield Row("the query part is no part of the path", POST_P.replace(b"/projects ", b"/projects?a=b "), [MADE_P])
-    absolute = POST_P.replace(b"/projects ", b"http://h/projects ")
-    yield Row("a target with a scheme isn't built", absolute + POST_P, [NO_ROUTE, MADE_P])
-    with_body = b"GET /project HTTP/1.1\r\nHost: h\r\nContent-Length: 3\r\n\r\nGET"
-    yield Row("a body that nobody asked for is read over", with_body + POST_P, [NO_ROUTE, MADE_P])
 
 
 def bodies():
@@ -269,7 +225,8 @@ def pipe_without_reader():
 def main():
     program, started = program_named(), time.monotonic()
     rows, failures = [], []
-    for group in (served, routes, bodies, *commit_rows.GROUPS, cut, refused, built, words, faults):
+    several = (*route_rows.GROUPS, *commit_rows.GROUPS, *branch_rows.GROUPS, *page_rows.GROUPS)
+    for group in (served, bodies, *several, cut, refused, built, words, faults):
         rows += group()
     for row in rows:
         try:
