@@ -1,13 +1,10 @@
 -- From the last point on a value stays.
-use Rattle.std.proofs.Common.{◌≡◌, ℕ, ◌≤◌, List, [], ◌∷◌, true, cond, Option, None, refl, sym, ap, subst, ◌∙◌, arith}
-use Rattle.std.specs.Prelude.{nat_le, All}
-use Rattle.std.proofs.lemmas.Bool.Decides.{nat_tests}
+use Rattle.std.proofs.Common.{◌≡◌, ℕ, ◌≤◌, List, [], ◌∷◌, cond, Option, None, refl, sym, ap, subst, ◌∙◌, arith}
+use Rattle.std.specs.Prelude.{All}
 use Rattle.std.proofs.lemmas.List.Elements.{All-head, All-tail}
 use Rattle.timeline.specs.Values.{Changes, last_said, changes_of, value_at, last_point}
 use Rattle.timeline.specs.Seen.{AreUpTo}
-
-said_by_then : (n m : ℕ) → n ≤ m → nat_le n m ≡ true
-said_by_then n m le = grind (arith, nat_tests)
+use Rattle.timeline.proofs.Saying.{said_by_then}
 
 module _ {T : Type 0} where
   -- where all that is said was said up to the last point, it is the same at all later points

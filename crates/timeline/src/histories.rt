@@ -70,7 +70,7 @@ impl<T: Drop> Histories<T> {
     {
         match self.find(id) {
             Some(history) => history.with(alloc, from, value),
-            None => History::new(alloc).with(alloc, from, value),
+            None => History::new().with(alloc, from, value),
         }
     }
 

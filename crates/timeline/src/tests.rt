@@ -66,6 +66,36 @@ fn a_shared_timeline_answers_alike(rt: HostRuntime) -> Result<(), Fail> {
     Ok(())
 }
 
+// Three points later the first id has k, or nothing where 5 divides k.
+fn next_change(alloc: Global, timeline: &Timeline<u64>, k: u64) -> Result<Timeline<u64>, Memory> {
+    let id = Id::from_u128(FIRST);
+    let point = timeline.last().saturating_add(3);
+    if k % 5 == 0 {
+        return timeline.end_at(alloc, id, point);
+    }
+    timeline.set_at(alloc, id, point, Arc::new(alloc, k)?)
+}
+
+// 200 changes of the first id, at the points 3, 6, 9 and so on up to 600.
+fn many_changes(alloc: Global) -> Result<Timeline<u64>, Memory> {
+    let mut timeline = Timeline::new();
+    for k in 1..201 {
+        timeline = next_change(alloc, &timeline, k)?;
+    }
+    Ok(timeline)
+}
+
+#[test]
+fn each_of_many_changes_is_found(rt: HostRuntime) -> Result<(), Fail> {
+    let timeline = many_changes(rt.alloc()).or(Err("no memory"))?;
+    for n in 0..700 {
+        let k = (n / 3).min(200);
+        let expected = (k % 5 != 0).then_some(k);
+        assert_eq!(rt; value(&timeline, FIRST, n), expected);
+    }
+    Ok(())
+}
+
 // Takes what threads may share and what may be dropped.
 fn may_be_shared<T: Send + Sync + Drop>(_value: T) {}
 
