@@ -9,7 +9,7 @@ use Rattle.sysapi_base.specs.Outside.{Grows}
 use Rattle.journal_disk.specs.Format.{Begins, Gated, header, base, body, places_from, used_by, Fits, HasRecords, IsEither, record_at, records_at}
 use Rattle.journal_disk.specs.Disk.{Tells}
 use Rattle.journal_disk.specs.Journal.{Held, IsKept, IsKeptOr}
-use Rattle.journal_disk.proofs.Formats.{length-body, length-base, length-places, spelled_most, used-spelled, ends_there, short_record, text_of_base, base-push, places-push, Fits-push, shut_records, open_records, either_records, records_of_base, few_places, empty_begins, length-empty, front_begins, open_begins, record_there}
+use Rattle.journal_disk.proofs.Formats.{length-header, length-body, length-base, length-places, spelled_most, used-spelled, ends_there, short_record, text_of_base, base-push, places-push, Fits-push, shut_records, open_records, either_records, records_of_base, few_places, empty_begins, length-empty, front_begins, open_begins, record_there}
 
 no_truth : {X : Type 0} (b : Bool) → b ≡ true → b ≡ false → X
 no_truth b is not_so = cc
@@ -93,6 +93,9 @@ module _ {images : List ℕ → Type 0} {repository room used : ℕ} {places : L
   many : length places ≡ length k.records
   many = ap length k.places_are ∙ length-places 16 k.records
 
+  pub least_used : 17 ≤ used
+  least_used = omega (arith, k.used_is, length-base repository k.records)
+
   pub most_used : used ≤ 64 + (2 ^ 27 + 64) * length places
   most_used = omega (arith, k.used_is, length-base repository k.records, spelled_most 16 k.records k.fits, many)
 
@@ -139,8 +142,14 @@ module _ {images : List ℕ → Type 0} {repository room used : ℕ} {places : L
         omega (arith, k.used_is, length-base repository k.records, used-spelled k.records)
         ∙ ap (λ (rs : List (List ℕ)). used_by rs) (sym (kept_are kept told))
 
+    pub count_exact : (kept : List (List ℕ)) → option_map (records_at places) reading ≡ Some kept → length places ≡ length kept
+    count_exact kept told = many ∙ ap length (sym (kept_are kept told))
+
+    pub places_exact : (kept : List (List ℕ)) → option_map (records_at places) reading ≡ Some kept → places ≡ places_from 16 kept
+    places_exact kept told = k.places_are ∙ ap (λ (rs : List (List ℕ)). places_from 16 rs) (sym (kept_are kept told))
+
     pub place_exact : (i : ℕ) (kept : List (List ℕ)) → option_map (records_at places) reading ≡ Some kept → get_or places i 0 ≡ get_or (places_from 16 kept) i 0
-    place_exact i kept told = ap (λ (l : List ℕ). get_or l i 0) k.places_are ∙ ap (λ (rs : List (List ℕ)). get_or (places_from 16 rs) i 0) (sym (kept_are kept told))
+    place_exact i kept told = ap (λ (l : List ℕ). get_or l i 0) (places_exact kept told)
 
     -- what is read from behind a record's gate, as long as the record
     pub record_read : {E : Type 0} (result : Result (Vec ℕ Global) E) (i at len : ℕ) → i < length places → at ≡ get_or places i 0 + 5 → len ≡ length (get_or k.records i [])
@@ -337,3 +346,17 @@ made n room places number most none all = record {
 
 pub made_has : (n : ℕ) (c : List ℕ) → n < 2 ^ 48 → Begins (header n ++ 0 ∷ []) c → HasRecords n [] c
 made_has n c number begins = shut_records n [] 0 c number tt (λ is. omega arith) (empty_begins n c begins)
+
+made_long : (n : ℕ) (c : List ℕ) → Begins (header n ++ 0 ∷ []) c → 17 ≤ length c
+made_long n c begins = omega (arith, ap length begins.1, length-append (header n ++ 0 ∷ []) begins.0, length-append (header n) (0 ∷ []), length-header n)
+
+made_none : (places b : List ℕ) (reading : Option (List ℕ)) → places ≡ [] → reading ≡ Some b → option_map (records_at places) reading ≡ Some []
+made_none places b reading none is = ap (λ (o : Option (List ℕ)). option_map (records_at places) o) is ∙ ap (λ (l : List ℕ). Some (records_at l b)) none
+
+-- what is told of it
+module _ {images : List ℕ → Type 0} (reading : Option (List ℕ)) (reads : (b : List ℕ) → reading ≡ Some b → images b) (n : ℕ) (places : List ℕ) (none : places ≡ []) (all : (c : List ℕ) → images c → Begins (header n ++ 0 ∷ []) c) where
+  pub made_told : (b : List ℕ) → reading ≡ Some b → (option_map (records_at places) reading ≡ Some []) × (17 ≤ length b)
+  made_told b is = (made_none places b reading none is, made_long n b (all b (reads b is)))
+
+  pub made_sound : n < 2 ^ 48 → (b : List ℕ) → reading ≡ Some b → (kept : List (List ℕ)) × (option_map (records_at places) reading ≡ Some kept) × HasRecords n kept b
+  made_sound number b is = ([], made_none places b reading none is, made_has n b number (all b (reads b is)))

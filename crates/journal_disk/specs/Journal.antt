@@ -44,6 +44,10 @@ pub record IsKept (images : List ℕ → Type 0) (repository room used : ℕ) (p
 abbrev pub told : {D : Type 0} → (D → Option (List ℕ)) → Held D → Option (List (List ℕ))
 told reading journal = option_map (records_at journal.places) (reading journal.disk)
 
+-- the bytes behind them
+abbrev pub reading_of : {D : Type 0} → (D → Option (List ℕ)) → Held D → Option (List ℕ)
+reading_of reading journal = reading journal.disk
+
 -- the record in doubt, where there is one and the disk tells its reading: the one behind the first gate that isn't counted
 abbrev pub doubted : {D : Type 0} → (D → Option (List ℕ)) → Held D → Option (List ℕ)
 doubted reading journal = if journal.doubt then option_map (record_at (journal.used - 1)) (reading journal.disk) else None

@@ -13,4 +13,5 @@ pub mod MemoryLaws
 pub mod Reading
 pub mod MemoryKeeper
 pub mod FileDisk
+pub mod VolatileDisk
 pub mod Example

@@ -68,6 +68,7 @@ impl<D: Disk> Journal<D> {
     /// How many records are kept.
     pub fn count(&self) -> u64
         ensures value { result ≡ length self.now.places }
+        ensures told { (kept : List (List ℕ)) → told D.reading self.now ≡ Some kept → result ≡ length kept }
         ensures below { result < self.now.used }
         ensures bound { result < 2 ^ 36 }
     {
@@ -88,6 +89,7 @@ impl<D: Disk> Journal<D> {
     pub fn used(&self) -> u64
         ensures value { result ≡ self.now.used }
         ensures exact { (kept : List (List ℕ)) → told D.reading self.now ≡ Some kept → result ≡ used_by kept }
+        ensures least { 17 ≤ result }
         ensures most { result ≤ 64 + (2 ^ 27 + 64) * length self.now.places }
     {
         self.used
@@ -106,6 +108,7 @@ impl<D: Disk> Journal<D> {
         requires { i < length self.now.places }
         ensures value { result ≡ get_or self.now.places i 0 }
         ensures exact { (kept : List (List ℕ)) → told D.reading self.now ≡ Some kept → result ≡ get_or (places_from 16 kept) i 0 }
+        ensures bound { result < 2 ^ 37 }
     {
         self.places[i as usize]
     }
@@ -127,16 +130,20 @@ impl<D: Disk> Journal<D> {
     /// The disk. Each image is sound, and has the kept records, or these and the one in doubt.
     pub fn into_disk(self) -> D
         ensures same { result ≡ self.disk }
+        ensures used { (kept : List (List ℕ)) → told D.reading self ≡ Some kept → self.used ≡ used_by kept }
+        ensures places { (kept : List (List ℕ)) → told D.reading self ≡ Some kept → self.places ≡ places_from 16 kept }
         ensures sound { (kept : List (List ℕ)) → told D.reading self ≡ Some kept
             → (c : List ℕ) → D.images self.disk c → IsKeptOr self.repository kept (doubted D.reading self) c }
     {
         self.disk
     }
 
-    /// A record, where it is told, by one read of the disk, or more where it gives less. It changes nothing.
+    /// A record, where it is told, by one read of the disk, or more where it gives less. It has at most 2^27 bytes in any case, and
+    /// changes nothing.
     pub fn record(&mut self, alloc: Global, i: u64) -> Result<Vec<u8>, RecordError>
         requires { i < length self.old.places }
         ensures value { (kept : List (List ℕ)) → told D.reading self.old ≡ Some kept → IfOk result (λ v. v.items ≡ slice_index_or kept i []) }
+        ensures size { IfOk result (λ v. length v.items ≤ 2 ^ 27) }
         ensures same { self.new ≡ record self.old { disk = self.new.disk } }
         ensures reading { D.reading self.new.disk ≡ D.reading self.old.disk }
         ensures crash { (c : List ℕ) → D.images self.new.disk c → D.images self.old.disk c }

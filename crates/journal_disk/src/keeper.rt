@@ -25,6 +25,9 @@ pub trait Keeper {
     /// The kept records, where they are told.
     ghost records: { Self → Option (List (List ℕ)) };
 
+    /// The bytes behind the records, where they are told.
+    ghost reading: { Self → Option (List ℕ) };
+
     /// The record in doubt, where there is one and it is told.
     ghost doubted: { Self → Option (List ℕ) };
 
@@ -51,6 +54,7 @@ pub trait Keeper {
     /// How many records are kept.
     fn count(&self) -> u64
         ensures value { result ≡ (figures self.now).count }
+        ensures told { (kept : List (List ℕ)) → records self.now ≡ Some kept → result ≡ length kept }
         ensures below { result < (figures self.now).used }
         ensures bound { result < 2 ^ 36 };
 
@@ -63,6 +67,7 @@ pub trait Keeper {
     /// How many bytes are used. A record in doubt doesn't count.
     fn used(&self) -> u64
         ensures value { result ≡ (figures self.now).used }
+        ensures least { 17 ≤ result }
         ensures most { result ≤ 64 + (2 ^ 27 + 64) * (figures self.now).count };
 
     /// How many bytes may be used.
@@ -73,15 +78,18 @@ pub trait Keeper {
     /// The number by which a record is named in a report.
     fn place(&self, i: u64) -> u64
         requires { i < (figures self.now).count }
-        ensures { result ≡ places self.now i };
+        ensures value { result ≡ places self.now i }
+        ensures bound { result < 2 ^ 37 };
 
-    /// A record, where it is told. `Fault` comes only where a call failed. All stays.
+    /// A record, where it is told, and at most 2^27 bytes in any case. `Fault` comes only where a call failed. All stays.
     fn record(&mut self, alloc: Global, i: u64) -> Result<Vec<u8>, RecordError>
         requires { i < (figures self.old).count }
         ensures value { (kept : List (List ℕ)) → records self.old ≡ Some kept → IfOk result (λ v. v.items ≡ slice_index_or kept i []) }
+        ensures size { IfOk result (λ v. length v.items ≤ 2 ^ 27) }
         ensures figures { figures self.new ≡ figures self.old }
         ensures places { KeepsPlaces (figures self.old).count (places self.old) (places self.new) }
         ensures records { records self.new ≡ records self.old }
+        ensures reading { reading self.new ≡ reading self.old }
         ensures doubted { doubted self.new ≡ doubted self.old }
         ensures any_moment { LeavesOnly moment images_since self.old self.new (images self.old) }
         ensures counts { Counts faults IsSteady RecordError.Fault self.old self.new result };
@@ -99,6 +107,7 @@ pub trait Keeper {
         ensures same { SameFigures (figures self.old) (figures self.new) }
         ensures places { KeepsPlaces (figures self.old).count (places self.old) (places self.new) }
         ensures records { records self.new ≡ records self.old }
+        ensures reading { reading self.new ≡ reading self.old }
         ensures doubted { doubted self.new ≡ doubted self.old }
         ensures any_moment { LeavesOnly moment images_since self.old self.new (images self.old) }
         ensures no_fault { faults self.new ≡ faults self.old }

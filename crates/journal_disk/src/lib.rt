@@ -14,6 +14,7 @@ mod opening;
 mod piece;
 mod reading;
 mod text;
+mod volatile_disk;
 
 pub use disk::Disk;
 pub use fault::{JournalFault, JournalOpen, OpenFault, Ran, RecordError};
@@ -23,6 +24,7 @@ pub use keeper::Keeper;
 pub use laws::{first_journal, judged_once, read_once};
 pub use memory::MemoryDisk;
 pub use memory_keeper::MemoryKeeper;
+pub use volatile_disk::VolatileDisk;
 
 #[cfg(test)]
 mod tests;

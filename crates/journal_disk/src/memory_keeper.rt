@@ -1,4 +1,4 @@
-ghost use Rattle.std.specs.Prelude.{◌≡◌, ◌+◌, ◌*◌, ◌<◌, ◌≤◌, ◌^◌, [], ◌∷◌, ◌++◌, length};
+ghost use Rattle.std.specs.Prelude.{◌≡◌, ◌+◌, ◌*◌, ◌<◌, ◌≤◌, ◌^◌, [], ◌∷◌, ◌++◌, length, All};
 
 use crate::fault::RecordError;
 use crate::keeper::Keeper;
@@ -21,6 +21,7 @@ pub struct MemoryKeeper {
     ghost few: { 5 * length records.items + 17 ≤ used },
     ghost small: { used ≤ 17 + (2 ^ 27 + 5) * length records.items },
     ghost low: { used ≤ 2 ^ 36 + 17 },
+    ghost short: { All (λ v. length v.items ≤ 2 ^ 27) records.items },
 }
 
 impl MemoryKeeper {
@@ -76,6 +77,8 @@ impl Keeper for MemoryKeeper {
     ghost places = { λ k i. i };
 
     ghost records = { keeper_records };
+
+    ghost reading = { λ k. None };
 
     ghost doubted = { λ k. None };
 

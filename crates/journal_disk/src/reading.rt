@@ -43,6 +43,7 @@ pub(crate) fn read_bytes<D: Disk>(
 ) -> Result<Vec<u8>, RecordError>
     requires { at + len < 2 ^ 63 }
     ensures value { (b : List ℕ) → D.reading disk.old ≡ Some b → IfOk result (λ v. v.items ≡ take len (drop at b)) }
+    ensures size { IfOk result (λ v. length v.items ≡ len) }
     ensures same { D.reading disk.new ≡ D.reading disk.old }
     ensures crash { (c : List ℕ) → D.images disk.new c → D.images disk.old c }
     ensures moment { D.moment disk.new ≡ D.moment disk.old }

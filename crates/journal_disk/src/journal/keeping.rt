@@ -9,7 +9,7 @@ use sysapi_base::{Failed, Memory};
 
 impl<D: Disk> Keeper for Journal<D> {
     ghost use Rattle.std.specs.Prelude.{◌+◌};
-    ghost use Rattle.journal_disk.specs.Journal.{told, doubted, figures_of, place_of, record_images, record_images_since};
+    ghost use Rattle.journal_disk.specs.Journal.{told, doubted, reading_of, figures_of, place_of, record_images, record_images_since};
     ghost use Rattle.journal_disk.specs.JournalLaws.{no_doubted};
 
     ghost figures = { figures_of };
@@ -19,6 +19,8 @@ impl<D: Disk> Keeper for Journal<D> {
     ghost places = { place_of };
 
     ghost records = { told D.reading };
+
+    ghost reading = { reading_of D.reading };
 
     ghost doubted = { doubted D.reading };
 

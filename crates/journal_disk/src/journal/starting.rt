@@ -1,8 +1,8 @@
 //! How a journal comes to be: made on a disk, or opened from one.
 
-ghost use Rattle.std.specs.Prelude.{◌≡◌, ◌<◌, ◌≤◌, ◌^◌, ℕ, false, List, [], ◌∷◌, ◌++◌, Some, IfOk, IfErr, OnOk, IsOk, IsErr};
+ghost use Rattle.std.specs.Prelude.{◌≡◌, ◌<◌, ◌≤◌, ◌^◌, ℕ, false, List, [], ◌∷◌, ◌++◌, length, Some, IfOk, IfErr, OnOk, IsOk, IsErr};
 ghost use Rattle.sysapi_base.specs.Outside.{Rises};
-ghost use Rattle.journal_disk.specs.Disk.{Keeps, LeavesOnly};
+ghost use Rattle.journal_disk.specs.Disk.{Keeps, Tells, LeavesOnly};
 ghost use Rattle.journal_disk.specs.Format.{Begins, header, HasRecords};
 
 use super::Journal;
@@ -21,7 +21,8 @@ impl<D: Disk> Journal<D> {
 
     /// Makes an empty journal, whatever stood on the disk. The repository's number is below 2^48, and the room from 17 to 2^36 bytes.
     /// `Fault` comes only where a call of the disk failed, and no other error comes. A crash within this call leaves a disk of which
-    /// nothing is said.
+    /// nothing is said. At `Ok` the bytes are sound and have no record, where the disk tells them. It tells none where it told none
+    /// before.
     pub fn create(
         alloc: Global,
         disk: D,
@@ -37,6 +38,10 @@ impl<D: Disk> Journal<D> {
         ensures places { IfOk result (λ j. j.places ≡ []) }
         ensures doubt { IfOk result (λ j. j.doubt ≡ false) }
         ensures images { IfOk result (λ j. (c : List ℕ) → D.images j.disk c → HasRecords repository [] c) }
+        ensures tells { IfOk result (λ j. (b : List ℕ) → D.reading j.disk ≡ Some b → (told D.reading j ≡ Some []) × (17 ≤ length b)) }
+        ensures records { IfOk result (λ j. (b : List ℕ) → D.reading j.disk ≡ Some b
+            → (kept : List (List ℕ)) × (told D.reading j ≡ Some kept) × HasRecords j.repository kept b) }
+        ensures told { OnDisk result (λ new. Tells (D.reading disk) (D.reading new)) }
         ensures why { IfErr result (λ e. e.why ≡ JournalFault.Fault) }
         ensures opens { OpensBy D.faults D.IsSteady disk result }
     {
@@ -95,6 +100,7 @@ impl<D: Disk> Journal<D> {
 // Cuts the disk to nothing, and writes and syncs the bytes of an empty journal.
 fn write_empty<D: Disk>(disk: &mut D, repository: u64) -> Result<(), Failed>
     ensures ok { OnOk result ((c : List ℕ) → D.images disk.new c → Begins (header repository ++ 0 ∷ []) c) }
+    ensures tells { Tells (D.reading disk.old) (D.reading disk.new) }
     ensures later { D.faults disk.old ≤ D.faults disk.new }
     ensures failed { IsErr result → Rises (D.faults disk.old) (D.faults disk.new) }
     ensures succeeds { D.IsSteady disk.old → IsOk result }

@@ -1,7 +1,7 @@
 //! A journal and a keeper in memory after the same calls.
 
 use super::{Kept, has_record, keep, place_of, record_of};
-use crate::{Journal, JournalFault, Keeper, MemoryDisk, MemoryKeeper};
+use crate::{Disk, Journal, JournalFault, Keeper, MemoryDisk, MemoryKeeper, VolatileDisk};
 use std::alloc::Global;
 use std::test::Fail;
 use sysapi_base::{Failed, Memory};
@@ -50,6 +50,28 @@ fn a_journal_of_one_entry(rt: HostRuntime) -> Result<(), Fail> {
         (1, 1000, false)
     );
     assert_eq!(rt; place_of(&again, 0), Some(16));
+    Ok(())
+}
+
+#[test]
+fn a_journal_that_lives_with_its_program(rt: HostRuntime) -> Result<(), Fail> {
+    let alloc = rt.alloc();
+    let Ok(mut journal) = Journal::create(alloc, VolatileDisk::new(alloc), 1, 1000) else {
+        return Err(Fail::from("it is created"));
+    };
+    assert_eq!(rt; keep(&mut journal, &ENTRY)?, Kept::Done);
+    assert_eq!(rt; told(alloc, &mut journal), (1, 38, true));
+    let Ok(mut again) = Journal::open(alloc, journal.into_disk(), 1000) else {
+        return Err(Fail::from("it is opened"));
+    };
+    assert_eq!(rt; told(alloc, &mut again), (1, 38, true));
+    let mut disk = again.into_disk();
+    assert_eq!(rt; disk.cut(2), Ok(()));
+    assert_eq!(rt; disk.write_at(4, &[7]), Ok(()));
+    assert_eq!(rt; disk.len(), Ok(5));
+    let mut bytes = [1; 6];
+    assert_eq!(rt; disk.read(0, &mut bytes), Ok(5));
+    assert_eq!(rt; bytes, [0x53, 0x59, 0, 0, 7, 1]);
     Ok(())
 }
 

@@ -1,6 +1,6 @@
 use crate::{
     FileDisk, Journal, JournalFault, JournalOpen, MemoryDisk, MemoryKeeper, OpenFault, Ran,
-    RecordError,
+    RecordError, VolatileDisk,
 };
 use std::test::Fail;
 
@@ -16,6 +16,7 @@ fn all_may_be_shared(rt: HostRuntime) -> Result<(), Fail> {
     let alloc = rt.alloc();
     shared_file(None);
     shared(MemoryDisk::new(alloc));
+    shared(VolatileDisk::new(alloc));
     shared(MemoryKeeper::new(alloc, 1, 17));
     shared(Journal::create(alloc, MemoryDisk::new(alloc), 1, 17));
     shared(JournalOpen {

@@ -11,3 +11,13 @@ pub returns-clause-images : goal.returns-clause-images
 returns-clause-images g c =
     let all = lem.ok_of c.write_empty.result (sym c.is_err.ensures.value ∙ c.if-is_err.false) c.write_empty.ensures.ok in
     λ f now. lem.made_has c.args.repository f c.requires.number (all f now)
+
+pub returns-clause-tells : goal.returns-clause-tells
+returns-clause-tells g c =
+    let all = lem.ok_of c.write_empty.result (sym c.is_err.ensures.value ∙ c.if-is_err.false) c.write_empty.ensures.ok in
+    lem.made_told (g.D.Disk.reading c.write_empty.new.disk) (g.met.D.Disk.reads_as_image c.write_empty.new.disk) c.args.repository c.new.result.items c.new.ensures.items all
+
+pub returns-clause-records : goal.returns-clause-records
+returns-clause-records g c =
+    let all = lem.ok_of c.write_empty.result (sym c.is_err.ensures.value ∙ c.if-is_err.false) c.write_empty.ensures.ok in
+    lem.made_sound (g.D.Disk.reading c.write_empty.new.disk) (g.met.D.Disk.reads_as_image c.write_empty.new.disk) c.args.repository c.new.result.items c.new.ensures.items all c.requires.number

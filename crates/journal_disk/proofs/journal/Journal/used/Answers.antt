@@ -6,3 +6,6 @@ returns-clause-exact g c = rw (← c.self.view_is) (lem.used_exact c.self.invari
 
 pub returns-clause-most : goal.returns-clause-most
 returns-clause-most g c = rw (← c.self.view_is) (lem.most_used c.self.invariant)
+
+pub returns-clause-least : goal.returns-clause-least
+returns-clause-least g c = lem.least_used c.self.invariant
