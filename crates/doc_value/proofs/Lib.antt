@@ -4,3 +4,4 @@ pub mod Writing
 pub mod Depths
 pub mod Worked
 pub mod Parts
+pub mod Limits

@@ -4,6 +4,7 @@ mod copy;
 mod field;
 mod length;
 mod reference;
+mod within;
 mod write;
 
 use std::alloc::Global;

@@ -112,6 +112,26 @@ fn nests_to_a_hundred(rt: HostRuntime) -> Result<(), Fail> {
     Ok(())
 }
 
+/// Any document can be asked, be it as deep or with such numbers as none that is read.
+#[test]
+fn keeps_within_limits(rt: HostRuntime) -> Result<(), Fail> {
+    let alloc = rt.alloc();
+    let lists = Doc::read(alloc, nested(alloc, 98)?.as_slice())?;
+    assert!(rt; lists.is_within(98));
+    assert!(rt; !lists.is_within(97));
+    let objects = Doc::read(alloc, b"{\"a\":1,\"b\":{\"c\":-1}}")?;
+    assert!(rt; objects.is_within(2));
+    assert!(rt; !objects.is_within(1));
+    assert!(rt; Doc::Whole(-9_223_372_036_854_775_808).is_within(0));
+    assert!(rt; Doc::Whole(18_446_744_073_709_551_615).is_within(0));
+    for whole in [-9_223_372_036_854_775_809, 18_446_744_073_709_551_616] {
+        let mut docs = Vec::new(alloc);
+        docs.push(Doc::Whole(whole))?;
+        assert!(rt; !Doc::List(Items::of(docs)).is_within(u64::MAX));
+    }
+    Ok(())
+}
+
 #[test]
 fn counts_the_last_value_of_a_name(rt: HostRuntime) -> Result<(), Fail> {
     let alloc = rt.alloc();
