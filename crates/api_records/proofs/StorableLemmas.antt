@@ -1,4 +1,4 @@
--- The command of a sound body can be stored.
+-- The command of a sound body has right parts.
 use Rattle.std.proofs.Common.{rules, arith, ◌≡◌, ℕ, suc, max, ◌≤◌, List, [], ◌∷◌, Bool, true, false, cond, Option, Some, None, IsSome, option_and_then, Result, Ok, Err, IfOk, IfSome, nat_cmp, refl, sym, subst}
 use Rattle.std.specs.Prelude.{⊤, codes}
 use Rattle.std.specs.List.{All, AllByRecursion}
@@ -16,7 +16,7 @@ use Rattle.api_records.specs.declared.command.Change.{Change}
 use Rattle.api_records.specs.declared.command.Command.{Command}
 use Rattle.api_records.specs.declared.command.Command.TheVariants.{CreateCommit}
 use Rattle.api_records.specs.Bodies.{Judged, and_then, or_wrong, optional_text, reference_or_none, references_or_none, right_id, payload_at, change_in, changes_in, all_objects, changes_or_none, commit_in, Shapes}
-use Rattle.api_records.specs.Storable.{IsPayload, IsStored, IsStorable, HasFew}
+use Rattle.api_records.specs.Storable.{IsPayload, IsStored, HasRightParts, HasFew}
 use Rattle.api_records.proofs.BodyLemmas.{fields_back}
 
 -- ---- the depth of a field
@@ -108,14 +108,14 @@ changes_stored key (Some other) h cs e = absurd cc
 
 -- ---- commits
 
-commit_storable : (project : ℕ) (branch : Option ℕ) (d : Document) → IsSound d → (command : Command) → commit_in project branch d ≡ Ok command → HasFew command → IsStorable command
-commit_storable project branch d sound command e few =
+commit_right : (project : ℕ) (branch : Option ℕ) (d : Document) → IsSound d → (command : Command) → commit_in project branch d ≡ Ok command → HasFew command → HasRightParts command
+commit_right project branch d sound command e few =
     let changes = inverted (changes_or_none (codes "change") (field_at (codes "change") d)) _ command e in
     let description = inverted (optional_text (codes "description") d) _ command changes.2 in
     let previous = inverted (references_or_none (codes "previousCommit") (field_at (codes "previousCommit") d)) (λ ids. Ok (CreateCommit project branch ids description.0 changes.0)) command description.2 in
     let stored : AllStored changes.0 = changes_stored (codes "change") (field_at (codes "change") d) (field_fits 99 (codes "change") d (record { range = sound.range; shallow = sound.shallow })) changes.0 changes.1 in
-    subst (λ (x : Command). HasFew x → IsStorable x) (same (CreateCommit project branch previous.0 description.0 changes.0) command previous.2) (λ less. (stored, less)) few
+    subst (λ (x : Command). HasFew x → HasRightParts x) (same (CreateCommit project branch previous.0 description.0 changes.0) command previous.2) (λ less. (stored, less)) few
 
-pub command_storable : (r : Result Command ShapeError) (project : ℕ) (branch : Option ℕ) (d : Document) → IsSound d → Shapes r (commit_in project branch d) → IfOk r HasFew → IfOk r IsStorable
-command_storable (Ok command) project branch d sound e few = commit_storable project branch d sound command e few
-command_storable (Err error) project branch d sound e few = tt
+pub command_right : (r : Result Command ShapeError) (project : ℕ) (branch : Option ℕ) (d : Document) → IsSound d → Shapes r (commit_in project branch d) → IfOk r HasFew → IfOk r HasRightParts
+command_right (Ok command) project branch d sound e few = commit_right project branch d sound command e few
+command_right (Err error) project branch d sound e few = tt

@@ -1,5 +1,6 @@
 pub mod Sets
 pub mod Changes
+pub mod Spelling
 pub mod Storable
 pub mod Records
 pub mod Refusals

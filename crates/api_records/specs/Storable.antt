@@ -1,10 +1,11 @@
 -- Commands that can be stored.
-use Rattle.std.specs.Prelude.{◌≤◌, ◌<◌, ◌^◌, ℕ, length, Option, Some, None, IsSome, codes, ⊤}
+use Rattle.std.specs.Prelude.{◌≤◌, ◌+◌, ◌<◌, ◌^◌, ℕ, length, Option, Some, None, IsSome, codes, ⊤}
 use Rattle.std.specs.List.{All}
 use Rattle.doc_value.specs.Document.{Document, object, IsSound, depth, field_at}
 use Rattle.doc_value.specs.Reference.{reference}
 use Rattle.doc_value.specs.Seen.{document}
 use Rattle.doc_value.specs.declared.doc.Doc.{Doc}
+use Rattle.api_records.specs.Spelling.{command_bytes}
 use Rattle.api_records.specs.declared.command.Command.{Command}
 use Rattle.api_records.specs.declared.command.Command.TheVariants.{CreateCommit}
 
@@ -32,11 +33,19 @@ IsStored None = ⊤
 IsStored (Some d) = IsPayload (document d)
 
 -- each payload of a commit is right, and its changes are so few that each place is a number of 32 bits
-abbrev pub IsStorable : Command → Type 0
-IsStorable (CreateCommit project branch previous description changes) = All (λ c. IsStored c.payload) changes × (length changes < 2 ^ 32)
-IsStorable other = ⊤
+abbrev pub HasRightParts : Command → Type 0
+HasRightParts (CreateCommit project branch previous description changes) = All (λ c. IsStored c.payload) changes × (length changes < 2 ^ 32)
+HasRightParts other = ⊤
 
--- the second half of it
+-- An entry has at most 2^27 bytes: the moment in 8, and the command.
+abbrev pub IsShort : Command → Type 0
+IsShort c = 8 + length (command_bytes c) ≤ 2 ^ 27
+
+-- A command can be stored exactly where its entry can.
+abbrev pub IsStorable : Command → Type 0
+IsStorable c = HasRightParts c × IsShort c
+
+-- the second half of right parts
 abbrev pub HasFew : Command → Type 0
 HasFew (CreateCommit project branch previous description changes) = length changes < 2 ^ 32
 HasFew other = ⊤

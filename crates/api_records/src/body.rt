@@ -4,7 +4,7 @@ ghost use Rattle.std.specs.Prelude.{◌<◌, ◌^◌, IfOk};
 ghost use Rattle.doc_value.specs.Document.{IsSound};
 ghost use Rattle.doc_value.specs.Seen.{document};
 ghost use Rattle.api_records.specs.Bodies.{Shapes, HasIds, command_in, project_in, update_in, commit_in, branch_in, tag_in};
-ghost use Rattle.api_records.specs.Storable.{IsStorable, HasFew};
+ghost use Rattle.api_records.specs.Storable.{HasRightParts, HasFew};
 
 mod changes;
 mod parts;
@@ -89,7 +89,7 @@ impl Command {
         requires ids { HasIds kind ids.now }
         requires sound { IsSound (document doc.now) }
         ensures exact { Shapes result (command_in kind ids.now branch (document doc.now)) }
-        ensures storable { IfOk result IsStorable }
+        ensures right_parts { IfOk result HasRightParts }
     {
         let Doc::Object(_) = doc else {
             return Err(bad_shape(alloc, "")?);
@@ -108,7 +108,7 @@ impl Command {
 // The command of a new project's body: `name`, then `description`.
 fn project_of(alloc: Global, doc: &Doc) -> Result<Command, ShapeError>
     ensures exact { Shapes result (project_in (document doc.now)) }
-    ensures storable { IfOk result IsStorable }
+    ensures right_parts { IfOk result HasRightParts }
 {
     let name = text_at(alloc, doc, "name")?;
     let description = text_at(alloc, doc, "description")?;
@@ -118,7 +118,7 @@ fn project_of(alloc: Global, doc: &Doc) -> Result<Command, ShapeError>
 // The command of a project's update: `name`, then `description`, then `defaultBranch`.
 fn update_of(alloc: Global, project: Id, doc: &Doc) -> Result<Command, ShapeError>
     ensures exact { Shapes result (update_in project (document doc.now)) }
-    ensures storable { IfOk result IsStorable }
+    ensures right_parts { IfOk result HasRightParts }
 {
     let name = text_at(alloc, doc, "name")?;
     let description = text_at(alloc, doc, "description")?;
@@ -156,7 +156,7 @@ fn commit_of(
 // The command of a branch's body: `name`, then the head.
 fn branch_of(alloc: Global, project: Id, doc: &Doc) -> Result<Command, ShapeError>
     ensures exact { Shapes result (branch_in project (document doc.now)) }
-    ensures storable { IfOk result IsStorable }
+    ensures right_parts { IfOk result HasRightParts }
 {
     let name = text_at(alloc, doc, "name")?;
     let head = head_at(alloc, doc)?;
@@ -170,7 +170,7 @@ fn branch_of(alloc: Global, project: Id, doc: &Doc) -> Result<Command, ShapeErro
 // The command of a tag's body: `name`, then the commit.
 fn tag_of(alloc: Global, project: Id, doc: &Doc) -> Result<Command, ShapeError>
     ensures exact { Shapes result (tag_in project (document doc.now)) }
-    ensures storable { IfOk result IsStorable }
+    ensures right_parts { IfOk result HasRightParts }
 {
     let name = text_at(alloc, doc, "name")?;
     let commit = tagged_at(alloc, doc)?;

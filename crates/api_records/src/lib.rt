@@ -6,8 +6,10 @@ mod body;
 mod command;
 mod document;
 mod laws;
+mod length;
 mod record;
 mod refusal;
+mod storable;
 
 pub use body::{BodyKind, ShapeError};
 pub use command::{Change, Changes, Command};

@@ -1,4 +1,6 @@
-use crate::{BodyKind, Branch, Command, Commit, Project, ShapeError, Tag, Version};
+use crate::{
+    BodyKind, Branch, Change, Changes, Command, Commit, Project, ShapeError, Tag, Version,
+};
 use doc_value::Doc;
 use std::alloc::Global;
 use std::test::Fail;
@@ -238,6 +240,55 @@ fn takes_the_deepest_payload(rt: HostRuntime) -> Result<(), Fail> {
         _ => 0,
     };
     assert_eq!(rt; taken, 1);
+    Ok(())
+}
+
+/// A commit with one change, which stores this payload.
+fn storing(alloc: Global, payload: &[u8]) -> Result<Command, Fail> {
+    let mut changes = Vec::new(alloc);
+    changes.push(Change {
+        identity: None,
+        payload: Some(Doc::read(alloc, payload)?),
+    })?;
+    Ok(Command::CreateCommit {
+        project: Id::from_u128(7),
+        branch: None,
+        previous: Ids::of(Vec::new(alloc)),
+        description: None,
+        changes: Changes::of(changes),
+    })
+}
+
+/// An object of this depth.
+fn deep(alloc: Global, depth: usize) -> Result<Vec<u8>, Fail> {
+    let mut text = Vec::from_slice(alloc, b"{\"x\":")?;
+    for _ in 1..depth {
+        text.push(b'[')?;
+    }
+    for _ in 1..depth {
+        text.push(b']')?;
+    }
+    text.push(b'}')?;
+    Ok(text)
+}
+
+#[test]
+fn tells_what_can_be_stored(rt: HostRuntime) -> Result<(), Fail> {
+    let alloc = rt.alloc();
+    let id = b"{\"@id\":\"00000000-0000-0000-0000-00000000000a\"}";
+    let right = storing(alloc, id)?;
+    assert!(rt; right.is_storable());
+    assert_eq!(rt; right.encoded_len(), 87);
+    assert!(rt; storing(alloc, deep(alloc, 97)?.as_slice())?.is_storable());
+    assert!(rt; !storing(alloc, deep(alloc, 98)?.as_slice())?.is_storable());
+    assert!(rt; !storing(alloc, b"[]")?.is_storable());
+    assert!(rt; !storing(alloc, b"{\"@id\":\"1\"}")?.is_storable());
+    assert!(rt;
+        Command::DeleteProject {
+            project: Id::from_u128(7)
+        }
+        .is_storable()
+    );
     Ok(())
 }
 
