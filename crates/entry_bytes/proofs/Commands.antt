@@ -6,7 +6,7 @@ use Rattle.doc_value.specs.declared.doc.Doc.{Doc}
 use Rattle.api_records.specs.declared.command.Change.{Change}
 use Rattle.api_records.specs.declared.command.Command.{Command}
 use Rattle.api_records.specs.declared.command.Command.TheVariants.{CreateProject, UpdateProject, DeleteProject, CreateCommit, CreateBranch, DeleteBranch, CreateTag, DeleteTag}
-use Rattle.entry_bytes.specs.Spelling.{optional, list_bytes, text_bytes, id_bytes, change_bytes, command_bytes}
+use Rattle.api_records.specs.Spelling.{optional, list_bytes, text_bytes, id_bytes, change_bytes, command_bytes}
 use Rattle.entry_bytes.specs.Sound.{IsId, HasProperIdentity, HasKeptPayload}
 use Rattle.entry_bytes.specs.Reading.{Reader, made, id_at, optional_at, list_at, text_at, change_at, fields_at, command_at}
 use Rattle.entry_bytes.proofs.Parts.{IsBytes, Reads, made_takes, made_again, optional_reads}

@@ -1,25 +1,27 @@
 -- The two laws of entries: what is read is spelled so, and what is spelled so is read.
-use Rattle.std.proofs.Common.{◌≡◌, ℕ, ◌^◌, ◌<◌, ◌≤◌, Bool, false, cond, eqb, ltb, List, [], ◌++◌, length, Option, Some, None, option_and_then, IfSome, Result, Ok, Err, IfOk, sym, ap, subst, ◌∙◌, arith}
+use Rattle.std.proofs.Common.{◌≡◌, ℕ, ◌^◌, ◌<◌, ◌≤◌, Bool, false, cond, eqb, ltb, List, [], ◌++◌, length, ◌+◌, Option, Some, None, option_and_then, IfSome, Result, Ok, Err, IfOk, sym, ap, subst, ◌∙◌, arith}
 use Rattle.std.specs.Prelude.{IfErr}
 use Rattle.std.specs.Int.{w64}
 use Rattle.std.proofs.lemmas.Bool.{eqb-true, ltb-false, ltb-true, lt-ltb, le-ltb}
-use Rattle.std.proofs.lemmas.List.{append-nil, nil_from_length}
+use Rattle.std.proofs.lemmas.List.{append-nil, nil_from_length, length-append}
 use Rattle.std.proofs.lemmas.Option.{none-some}
 use Rattle.sysapi_base.specs.declared.moment.TheConstants.{END}
 use Rattle.doc_value.specs.Document.{IsProper}
 use Rattle.doc_value.specs.declared.doc.Doc.{Doc}
 use Rattle.doc_value.specs.Seen.{document}
-use Rattle.api_records.specs.Storable.{IsStorable, IsStored}
+use Rattle.api_records.specs.Storable.{HasRightParts, IsStored, IsShort}
 use Rattle.api_records.specs.declared.command.Command.{Command}
 use Rattle.api_records.specs.declared.command.Command.TheVariants.{CreateProject, UpdateProject, DeleteProject, CreateCommit, CreateBranch, DeleteBranch, CreateTag, DeleteTag}
 use Rattle.entry_codec.specs.declared.entry.Entry.{Entry}
 use Rattle.entry_bytes.specs.declared.error.DecodeError.{DecodeError}
 use Rattle.entry_bytes.specs.declared.error.DecodeError.TheVariants.{NotAnEntry, Memory}
-use Rattle.entry_bytes.specs.Spelling.{number_bytes, command_bytes, entry_bytes}
+use Rattle.api_records.specs.Spelling.{number_bytes, command_bytes}
+use Rattle.entry_bytes.specs.Spelling.{entry_bytes}
 use Rattle.entry_bytes.specs.Sound.{IsEntry, IsProperEntry, HasProperParts, IsKept, HasKeptPayloads}
 use Rattle.entry_bytes.specs.Reading.{both, judged, number_at, command_at, if_moment, entry_at, if_ended, entry_in, Gives, Fails, Explains, IsNoEntry}
 use Rattle.entry_bytes.proofs.Parts.{IsBytes, chained, provided, unless, Reads, made_takes, made_again, judged_reads, IsBelow}
 use Rattle.entry_bytes.proofs.Fields.{both_of, number_64}
+use Rattle.entry_bytes.proofs.Lengths.{length_64}
 use Rattle.entry_bytes.proofs.Commands.{WasTaken, CanBeRead, command_reads}
 
 moment_right : (a b : ℕ) → IsBelow (2 ^ 64) a → if_moment a ≡ Some b → (a ≡ b) × (b < END)
@@ -65,7 +67,7 @@ stored : (o : Option Doc) → IfSome o IsKept → IsStored o × IfSome o (λ d. 
 stored None h = (tt, tt)
 stored (Some d) h = (h.0, h.1)
 
-readable : (c : Command) → IsStorable c → HasProperParts c → CanBeRead c
+readable : (c : Command) → HasRightParts c → HasProperParts c → CanBeRead c
 readable (CreateProject n d) h p = (p.0, p.1)
 readable (UpdateProject x n d b) h p = (p.0, p.1, p.2, p.3)
 readable (DeleteProject x) h p = p
@@ -75,29 +77,41 @@ readable (DeleteBranch x b) h p = (p.0, p.1)
 readable (CreateTag x n c) h p = (p.0, p.1, p.2)
 readable (DeleteTag x t) h p = (p.0, p.1)
 
-storable : (c : Command) → WasTaken c → HasKeptPayloads c → IsStorable c × HasProperParts c
-storable (CreateProject n d) p h = (tt, (p.0, p.1))
-storable (UpdateProject x n d b) p h = (tt, (p.0, p.1, p.2, p.3))
-storable (DeleteProject x) p h = (tt, p)
-storable (CreateCommit x b cs d xs) p h = (((λ k c lt. (stored _ (h k c lt)).0), p.5), (p.0, p.1, p.2, p.3, p.4, λ k c lt. (stored _ (h k c lt)).1))
-storable (CreateBranch x n b) p h = (tt, (p.0, p.1, p.2))
-storable (DeleteBranch x b) p h = (tt, (p.0, p.1))
-storable (CreateTag x n c) p h = (tt, (p.0, p.1, p.2))
-storable (DeleteTag x t) p h = (tt, (p.0, p.1))
+right_parts : (c : Command) → WasTaken c → HasKeptPayloads c → HasRightParts c × HasProperParts c
+right_parts (CreateProject n d) p h = (tt, (p.0, p.1))
+right_parts (UpdateProject x n d b) p h = (tt, (p.0, p.1, p.2, p.3))
+right_parts (DeleteProject x) p h = (tt, p)
+right_parts (CreateCommit x b cs d xs) p h = (((λ k c lt. (stored _ (h k c lt)).0), p.5), (p.0, p.1, p.2, p.3, p.4, λ k c lt. (stored _ (h k c lt)).1))
+right_parts (CreateBranch x n b) p h = (tt, (p.0, p.1, p.2))
+right_parts (DeleteBranch x b) p h = (tt, (p.0, p.1))
+right_parts (CreateTag x n c) p h = (tt, (p.0, p.1, p.2))
+right_parts (DeleteTag x t) p h = (tt, (p.0, p.1))
+
+-- ---- lengths
+
+length_entry : (e : Entry) → length (entry_bytes e) ≡ 8 + length (command_bytes e.command)
+length_entry e = omega (arith, length-append (number_bytes w64 e.moment) (command_bytes e.command), length_64 e.moment)
+
+short_entry : (e : Entry) → length (entry_bytes e) ≤ 2 ^ 27 → IsShort e.command
+short_entry e le = omega (arith, le, length_entry e)
+
+entry_short : (e : Entry) → IsShort e.command → length (entry_bytes e) ≤ 2 ^ 27
+entry_short e le = omega (arith, le, length_entry e)
 
 -- ---- the laws
 
 pub entry_takes : (bytes : List ℕ) (e : Entry) → IsBytes bytes → entry_in bytes ≡ Some e → HasKeptPayloads e.command → (entry_bytes e ≡ bytes) × IsEntry e × IsProperEntry e
 entry_takes bytes e fits is payloads =
     let a = all_takes bytes e fits is in
-    let known = storable e.command a.1.1 payloads in
-    (sym a.0, (known.0, subst (λ (l : List ℕ). length l ≤ 2 ^ 27) a.0 a.2), (a.1.0, known.1))
+    let known = right_parts e.command a.1.1 payloads in
+    (sym a.0, (known.0, short_entry e (subst (λ (l : List ℕ). length l ≤ 2 ^ 27) a.0 a.2)), (a.1.0, known.1))
 
 pub entry_again : (e : Entry) → IsEntry e → IsProperEntry e → entry_in (entry_bytes e) ≡ Some e
 entry_again e is proper =
-    let short : ltb (2 ^ 27) (length (entry_bytes e)) ≡ false = le-ltb _ _ is.1 in
+    let fits : length (entry_bytes e) ≤ 2 ^ 27 = entry_short e is.1 in
+    let short : ltb (2 ^ 27) (length (entry_bytes e)) ≡ false = le-ltb _ _ fits in
     let nothing : entry_bytes e ++ [] ≡ entry_bytes e = append-nil (entry_bytes e) in
-    let less : length (entry_bytes e ++ []) < 2 ^ 32 = subst (λ (l : List ℕ). length l < 2 ^ 32) (sym nothing) (omega (arith, is.1)) in
+    let less : length (entry_bytes e ++ []) < 2 ^ 32 = subst (λ (l : List ℕ). length l < 2 ^ 32) (sym nothing) (omega (arith, fits)) in
     let read = made_again entry_of _ _ _ _ parts (e.moment, e.command) [] (proper.0, readable e.command is.0 proper.1) less in
     ap (λ (b : Bool). cond b None (option_and_then if_ended (entry_at (entry_bytes e)))) short
     ∙ ap (λ (l : List ℕ). option_and_then if_ended (entry_at l)) (sym nothing)

@@ -10,7 +10,8 @@ use Rattle.std.proofs.lemmas.List.{take_at, drop_at, take-append-drop, length-ap
 use Rattle.std.proofs.lemmas.List.Concat.{flat_map-cons}
 use Rattle.std.proofs.lemmas.List.Elements.{All-from_recursion, recursion_from_All}
 use Rattle.std.proofs.Math.Nat.{div-div-eq-div-mul}
-use Rattle.entry_bytes.specs.Spelling.{number_bytes, list_bytes, text_bytes, id_bytes}
+use Rattle.api_records.specs.Spelling.{number_bytes, list_bytes, text_bytes, id_bytes}
+use Rattle.api_records.proofs.Lengths.{length_id}
 use Rattle.entry_bytes.specs.Sound.{IsId}
 use Rattle.entry_bytes.specs.Reading.{Reader, both, number_at, id_at, repeated_at, list_at, bytes_at, slice_at, if_utf8, text_at}
 use Rattle.entry_bytes.proofs.Parts.{rest_bytes, shorter, chained, some_is, unless, provided, Reads, both_reads, made_takes, made_again, judged_reads, repeated_takes, repeated_again, IsBelow, number_reads, wide32, wide64}
@@ -91,10 +92,6 @@ id_reads = record {
       let read = made_again joined two_at two_bytes AreBelow AreBelow two (n / 2 ^ 64, n % 2 ^ 64) rest (h, l) (subst (λ (b : List ℕ). length (b ++ rest) < 2 ^ 32) same lt) in
       ap (λ (b : List ℕ). id_at (b ++ rest)) same ∙ read ∙ ap (λ (m : ℕ). Some (m, rest)) is;
 }
-
-pub length_id : (n : ℕ) → length (id_bytes n) ≡ 16
-unfolding number_bytes
-length_id n = refl
 
 -- ---- texts
 

@@ -1,24 +1,18 @@
 -- Lengths of the parts of entries.
-use Rattle.std.proofs.Common.{◌≡◌, ◌∙◌, ℕ, ◌+◌, ◌-◌, ◌*◌, ◌^◌, ◌<◌, ◌≤◌, min, take, get_or, Option, Some, None, List, [], ◌∷◌, ◌++◌, length, refl, ap, arith}
+use Rattle.std.proofs.Common.{◌≡◌, ℕ, ◌+◌, ◌^◌, ◌<◌, take, get_or, Option, Some, None, List, ◌++◌, length, refl, arith}
 use Rattle.std.specs.List.{flat_map, All}
 use Rattle.std.specs.Int.{w32, w64}
-use Rattle.std.proofs.lemmas.List.{length-append, take_all}
+use Rattle.std.proofs.lemmas.List.{length-append}
 use Rattle.std.proofs.lemmas.Grind.{common_steps}
-use Rattle.doc_value.specs.Length.{plus}
-use Rattle.std.proofs.lemmas.List.Concat.{flat_map-cons, length-flat_map}
+use Rattle.std.proofs.lemmas.List.Concat.{length-flat_map}
 use Rattle.std.proofs.lemmas.List.Sums.{get_or-le-sum_by}
 use Rattle.api_records.specs.declared.command.Change.{Change}
-use Rattle.entry_bytes.specs.Spelling.{number_bytes, optional, list_bytes, id_bytes, document_bytes, change_bytes}
-use Rattle.entry_bytes.proofs.Parts.{length_32}
-use Rattle.entry_bytes.proofs.Fields.{length_id, count_le}
+use Rattle.api_records.specs.Spelling.{number_bytes, optional, list_bytes, id_bytes, document_bytes, change_bytes}
+use Rattle.entry_bytes.proofs.Fields.{count_le}
 
 pub length_64 : (n : ℕ) → length (number_bytes w64 n) ≡ 8
 unfolding number_bytes
 length_64 n = refl
-
-pub length_ids : (ns : List ℕ) → length (flat_map id_bytes ns) ≡ 16 * length ns
-length_ids [] = refl
-length_ids (n ∷ ns) = omega (arith, ap length (flat_map-cons id_bytes n ns), length-append (id_bytes n) (flat_map id_bytes ns), length_id n, length_ids ns)
 
 length_optional : {A : Type 0} (s : A → List ℕ) (o : Option A) → 0 < length (optional s o)
 length_optional s None = omega arith
@@ -35,16 +29,7 @@ pub each_few : (cs : List Change) → length (list_bytes change_bytes cs) < 2 ^ 
 each_few cs lt k d within =
     omega (arith, lt, length-append (number_bytes w32 (length cs)) (flat_map change_bytes cs), length-flat_map change_bytes cs, get_or-le-sum_by (λ c. length (change_bytes c)) cs k d within)
 
-pub ruleset lengths = (length-append, length_32, length_64, length_id, length_ids)
-
 -- the bytes of one member more
 pub one_more : {A : Type 0} (s : A → List ℕ) (xs : List A) (i : ℕ) (x : A) (front old new : List ℕ) → i < length xs → x ≡ get_or xs i x
     → old ≡ front ++ flat_map s (take i xs) → new ≡ old ++ s x → new ≡ front ++ flat_map s (take (i + 1) xs)
 one_more s xs i x front old new within is before e = grind (arith, common_steps)
-
--- the length of all members
-pub total_all : (cs : List Change) (i n m total : ℕ) → length cs ≤ i → m ≡ min (n + 4) (2 ^ 64 - 1) → total ≡ plus m (flat_map change_bytes (take i cs)) → total ≡ plus n (list_bytes change_bytes cs)
-total_all cs i n m total le e is =
-    let all : take i cs ≡ cs = take_all i cs le in
-    let same : total ≡ plus m (flat_map change_bytes cs) = is ∙ ap (λ (l : List Change). plus m (flat_map change_bytes l)) all in
-    omega (arith, same, e, length-append (number_bytes w32 (length cs)) (flat_map change_bytes cs), length_32 (length cs))

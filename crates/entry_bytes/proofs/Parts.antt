@@ -6,7 +6,7 @@ use Rattle.std.proofs.lemmas.Bool.{cases_lt, ltb-false, le-ltb}
 use Rattle.std.proofs.lemmas.List.{take_at, drop_at, take-append-drop, length-append, length-take, get_or-take, get_or_past, get_or-append-add}
 use Rattle.std.proofs.lemmas.List.Concat.{flat_map-cons}
 use Rattle.std.proofs.lemmas.Nat.{be_bytes_4, be_bytes_8, from_be_bytes-to_be_bytes_4, from_be_bytes-to_be_bytes_8}
-use Rattle.entry_bytes.specs.Spelling.{number_bytes, optional}
+use Rattle.api_records.specs.Spelling.{number_bytes, optional}
 use Rattle.entry_bytes.specs.Reading.{Reader, both, made, judged, number_at, optional_at, repeated_at}
 
 -- ---- bytes
@@ -193,7 +193,3 @@ number_reads w limit wide = record {
       let long : ltb (length (to_be_bytes w n ++ rest)) (byte_len w) ≡ false = le-ltb _ _ (omega (arith, length-append (to_be_bytes w n) rest)) in
       rw (long, take_at (to_be_bytes w n) rest (byte_len w) len, drop_at (to_be_bytes w n) rest (byte_len w) len, wide.again n lt) refl;
 }
-
-pub length_32 : (n : ℕ) → length (number_bytes w32 n) ≡ 4
-unfolding number_bytes
-length_32 n = refl

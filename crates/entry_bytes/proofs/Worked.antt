@@ -3,7 +3,8 @@ use Rattle.std.proofs.Common.{◌≡◌, ℕ, List, [], ◌∷◌, ◌++◌, cod
 use Rattle.std.specs.Str.{is_utf8, chars}
 use Rattle.api_records.specs.declared.command.Command.TheVariants.{CreateProject}
 use Rattle.entry_codec.specs.declared.entry.Entry.{Entry}
-use Rattle.entry_bytes.specs.Spelling.{number_bytes, entry_bytes}
+use Rattle.api_records.specs.Spelling.{number_bytes}
+use Rattle.entry_bytes.specs.Spelling.{entry_bytes}
 use Rattle.entry_bytes.specs.Reading.{number_at, entry_in, IsNoEntry}
 use Rattle.entry_bytes.proofs.Entries.{no_entry}
 

@@ -1,15 +1,16 @@
 -- Reading from left to right. A reader takes a part from the front of bytes, and gives it with the bytes behind it, or nothing.
-use Rattle.std.specs.Prelude.{◌≡◌, ℕ, zero, suc, ◌+◌, ◌*◌, ◌^◌, ◌==◌, Bool, true, false, ◌||◌, ◌&&◌, nat_lt, if◌then◌else◌, List, [], ◌∷◌, ◌++◌, length, take, drop, Option, Some, None, option_map, option_and_then, is_none, is_some, Result, Ok, Err, codes, bytes_eq, ⊤}
+use Rattle.std.specs.Prelude.{◌≡◌, ℕ, zero, suc, ◌+◌, ◌*◌, ◌^◌, ◌==◌, Bool, true, false, ◌||◌, ◌&&◌, nat_lt, nat_le, if◌then◌else◌, List, [], ◌∷◌, length, take, drop, Option, Some, None, option_map, option_and_then, is_none, is_some, Result, Ok, Err, codes, bytes_eq, ⊤}
 use Rattle.std.specs.Int.{Width, w32, w64, byte_len, from_be_bytes}
 use Rattle.std.specs.Str.{is_utf8}
 use Rattle.sysapi_base.specs.declared.moment.TheConstants.{END}
-use Rattle.doc_value.specs.Document.{Document, list, object, member, no_members, entries, field_at}
+use Rattle.doc_value.specs.Document.{Document, object, entries, field_at, depth}
 use Rattle.doc_value.specs.Data.{compact}
 use Rattle.doc_value.specs.Read.{reading}
 use Rattle.doc_value.specs.Reference.{reference}
 use Rattle.doc_value.specs.declared.doc.Doc.{Doc}
 use Rattle.doc_value.specs.declared.doc.Doc.TheVariants as doc
 use Rattle.doc_value.specs.declared.error.DocError.{DocError}
+use Rattle.api_records.specs.Storable.{payload_depth}
 use Rattle.api_records.specs.declared.command.Change.{Change}
 use Rattle.api_records.specs.declared.command.Command.{Command}
 use Rattle.api_records.specs.declared.command.Command.TheVariants.{CreateProject, UpdateProject, DeleteProject, CreateCommit, CreateBranch, DeleteBranch, CreateTag, DeleteTag}
@@ -81,19 +82,6 @@ text_at = judged if_utf8 slice_at
 
 -- ---- documents
 
--- the member of a list with one member
-abbrev pub only_member : Document → Option Document
-only_member (list (member d no_members)) = Some d
-only_member other = None
-
--- a text within three lists
-abbrev pub nested : List ℕ → List ℕ
-nested text = 91 ∷ 91 ∷ 91 ∷ (text ++ 93 ∷ 93 ∷ 93 ∷ [])
-
--- the document within three lists
-abbrev pub innermost : Document → Option Document
-innermost d = option_and_then only_member (option_and_then only_member (only_member d))
-
 abbrev pub has_right_id : Document → Bool
 has_right_id d = is_none (field_at (codes "@id") d) || is_some (reference d)
 
@@ -101,18 +89,22 @@ abbrev pub is_object : Document → Bool
 is_object (object fs) = true
 is_object other = false
 
--- an object with a right `@id`, where this is its compact text
+-- an object that is not too deep, with a right `@id`
+abbrev pub is_payload : Document → Bool
+is_payload d = is_object d && (nat_le (depth d) payload_depth && has_right_id d)
+
+-- a payload, where this is its compact text
 abbrev pub if_payload : List ℕ → Document → Option Doc
-if_payload text (object fs) = if has_right_id (object fs) && bytes_eq (compact (object fs)) text then Some (doc.Object (entries fs)) else None
+if_payload text (object fs) = if is_payload (object fs) && bytes_eq (compact (object fs)) text then Some (doc.Object (entries fs)) else None
 if_payload text other = None
 
 abbrev pub if_ok : Result Document DocError → Option Document
 if_ok (Ok d) = Some d
 if_ok (Err e) = None
 
--- The payload that has this text. It is read within three lists, so that its depth is three less than that of what is read.
+-- the payload that has this text
 abbrev pub payload_in : List ℕ → Option Doc
-payload_in text = option_and_then (if_payload text) (option_and_then innermost (if_ok (reading (nested text))))
+payload_in text = option_and_then (if_payload text) (if_ok (reading text))
 
 abbrev pub document_at : Reader Doc
 document_at = judged payload_in slice_at

@@ -1,5 +1,5 @@
 -- Which entries are stored.
-use Rattle.std.specs.Prelude.{ℕ, ◌<◌, ◌≤◌, ◌^◌, length, IfSome, IsUtf8, ⊤}
+use Rattle.std.specs.Prelude.{ℕ, ◌<◌, ◌^◌, IfSome, IsUtf8, ⊤}
 use Rattle.std.specs.List.{All}
 use Rattle.sysapi_base.specs.declared.moment.TheConstants.{END}
 use Rattle.doc_value.specs.Document.{IsProper}
@@ -10,11 +10,10 @@ use Rattle.api_records.specs.declared.command.Change.{Change}
 use Rattle.api_records.specs.declared.command.Command.{Command}
 use Rattle.api_records.specs.declared.command.Command.TheVariants.{CreateProject, UpdateProject, DeleteProject, CreateCommit, CreateBranch, DeleteBranch, CreateTag, DeleteTag}
 use Rattle.entry_codec.specs.declared.entry.Entry.{Entry}
-use Rattle.entry_bytes.specs.Spelling.{entry_bytes}
 
--- An entry that can be stored: its command can, and it has at most 2^27 bytes.
+-- An entry can be stored where its command can.
 abbrev pub IsEntry : Entry → Type 0
-IsEntry e = IsStorable e.command × (length (entry_bytes e) ≤ 2 ^ 27)
+IsEntry e = IsStorable e.command
 
 -- ---- what is true of the parts of any entry, by their types
 

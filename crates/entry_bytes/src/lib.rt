@@ -21,13 +21,11 @@
 
 mod error;
 mod laws;
-mod length;
 mod reading;
 mod writing;
 
 pub use error::DecodeError;
 pub use laws::one_spelling;
-pub use length::encoded_len;
 pub use reading::decode;
 pub use writing::encode;
 

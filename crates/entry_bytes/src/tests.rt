@@ -1,4 +1,4 @@
-use crate::{DecodeError, decode, encode, encoded_len};
+use crate::{DecodeError, decode, encode};
 use api_records::Command;
 use entry_codec::Entry;
 use std::alloc::Global;
@@ -26,7 +26,7 @@ fn a_project(rt: HostRuntime) -> Result<(), Fail> {
             description: None,
         },
     };
-    assert_eq!(rt; encoded_len(&entry), 16);
+    assert_eq!(rt; entry.command.encoded_len(), 16);
     assert_eq!(rt; encode(alloc, &entry)?.as_slice(), PROJECT.as_slice());
     let read = decode(alloc, &PROJECT)?;
     assert_eq!(rt; encode(alloc, &read)?.as_slice(), PROJECT.as_slice());
@@ -79,7 +79,7 @@ fn a_commit_again(rt: HostRuntime) -> Result<(), Fail> {
     let alloc = rt.alloc();
     let bytes = commit(alloc, "{\"a\":2,\"b\":1}")?;
     let entry = decode(alloc, &bytes)?;
-    assert_eq!(rt; encoded_len(&entry), 109);
+    assert_eq!(rt; entry.command.encoded_len(), 109);
     assert_eq!(rt; encode(alloc, &entry)?.as_slice(), bytes.as_slice());
     Ok(())
 }

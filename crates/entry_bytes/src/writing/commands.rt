@@ -4,9 +4,9 @@ ghost use Rattle.std.specs.Prelude.{◌≡◌, ◌++◌, ◌∷◌, ◌<◌, ◌
 ghost use Rattle.std.specs.List.{All};
 ghost use Rattle.doc_value.specs.Document.{IsProper};
 ghost use Rattle.doc_value.specs.Seen.{document};
-ghost use Rattle.api_records.specs.Storable.{IsStorable, IsStored};
+ghost use Rattle.api_records.specs.Storable.{HasRightParts, IsStored};
 ghost use Rattle.api_records.specs.declared.command.Command.TheVariants.{CreateProject, UpdateProject, DeleteProject, CreateBranch, CreateTag};
-ghost use Rattle.entry_bytes.specs.Spelling.{optional, list_bytes, text_bytes, id_bytes, document_bytes, change_bytes, command_bytes};
+ghost use Rattle.api_records.specs.Spelling.{optional, list_bytes, text_bytes, id_bytes, document_bytes, change_bytes, command_bytes};
 ghost use Rattle.entry_bytes.specs.Sound.{IsId, HasProperIdentity, HasProperPayload, HasProperParts};
 
 use super::parts::{put_id, put_ids, put_optional_id, put_optional_text, put_slice, put_u32};
@@ -15,7 +15,7 @@ use doc_value::Doc;
 use std::alloc::Global;
 use sysapi_base::{Id, Ids, Memory, Text};
 
-#[tactic(auto, using(crate::proofs::Parts::length_32))]
+#[tactic(auto, using(api_records::proofs::Lengths::length_32))]
 fn put_optional_document(out: &mut Vec<u8>, alloc: Global, doc: &Option<Doc>) -> Result<(), Memory>
     requires few { length (optional document_bytes doc.now) < 2 ^ 32 }
     requires stored { IsStored doc.now }
@@ -61,7 +61,7 @@ fn put_changes(out: &mut Vec<u8>, alloc: Global, changes: &[Change]) -> Result<(
 /// A tag and the fields of the command.
 pub(crate) fn put_command(out: &mut Vec<u8>, alloc: Global, command: &Command) -> Result<(), Memory>
     requires few { length (command_bytes command.now) < 2 ^ 32 }
-    requires stored { IsStorable command.now }
+    requires stored { HasRightParts command.now }
     ensures bytes { OnOk result (out.new.items ≡ out.old.items ++ command_bytes command.now) }
     ensures proper { OnOk result (HasProperParts command.now) }
 {

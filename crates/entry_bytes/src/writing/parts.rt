@@ -3,12 +3,12 @@
 ghost use Rattle.std.specs.Prelude.{◌≡◌, ◌++◌, ◌<◌, ◌^◌, length, IfSome, OnOk, IsUtf8};
 ghost use Rattle.std.specs.List.{All, flat_map};
 ghost use Rattle.std.specs.Int.{w32, w64};
-ghost use Rattle.entry_bytes.specs.Spelling.{number_bytes, optional, list_bytes, text_bytes, id_bytes};
+ghost use Rattle.api_records.specs.Spelling.{number_bytes, optional, list_bytes, text_bytes, id_bytes};
 ghost use Rattle.entry_bytes.specs.Sound.{IsId};
 
 use sysapi_base::{Id, Memory, Text};
 
-#[tactic(auto, unfolding(crate::specs::Spelling::number_bytes))]
+#[tactic(auto, unfolding(api_records::specs::Spelling::number_bytes))]
 pub(crate) fn put_u32(out: &mut Vec<u8>, n: u32) -> Result<(), Memory>
     ensures { OnOk result (out.new.items ≡ out.old.items ++ number_bytes w32 n) }
 {
@@ -16,7 +16,7 @@ pub(crate) fn put_u32(out: &mut Vec<u8>, n: u32) -> Result<(), Memory>
     Ok(())
 }
 
-#[tactic(auto, unfolding(crate::specs::Spelling::number_bytes))]
+#[tactic(auto, unfolding(api_records::specs::Spelling::number_bytes))]
 pub(crate) fn put_u64(out: &mut Vec<u8>, n: u64) -> Result<(), Memory>
     ensures { OnOk result (out.new.items ≡ out.old.items ++ number_bytes w64 n) }
 {
@@ -24,7 +24,7 @@ pub(crate) fn put_u64(out: &mut Vec<u8>, n: u64) -> Result<(), Memory>
     Ok(())
 }
 
-#[tactic(auto, unfolding(crate::specs::Spelling::number_bytes))]
+#[tactic(auto, unfolding(api_records::specs::Spelling::number_bytes))]
 pub(crate) fn put_id(out: &mut Vec<u8>, id: Id) -> Result<(), Memory>
     ensures bytes { OnOk result (out.new.items ≡ out.old.items ++ id_bytes id) }
     ensures proper { IsId id }
@@ -57,7 +57,7 @@ pub(crate) fn put_slice(out: &mut Vec<u8>, bytes: &[u8]) -> Result<(), Memory>
     Ok(())
 }
 
-#[tactic(auto, using(crate::proofs::Parts::length_32))]
+#[tactic(auto, using(api_records::proofs::Lengths::length_32))]
 pub(crate) fn put_optional_text(out: &mut Vec<u8>, text: &Option<Text>) -> Result<(), Memory>
     requires { length (optional text_bytes text.now) < 2 ^ 32 }
     ensures bytes { OnOk result (out.new.items ≡ out.old.items ++ optional text_bytes text.now) }

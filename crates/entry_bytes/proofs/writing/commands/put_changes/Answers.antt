@@ -1,6 +1,6 @@
 use Rattle.std.proofs.Common.{arith, subst}
 use Rattle.std.proofs.lemmas.List.Elements.{All-more}
-use Rattle.entry_bytes.specs.Spelling.{change_bytes}
+use Rattle.api_records.specs.Spelling.{change_bytes}
 use Rattle.entry_bytes.specs.Sound.{HasProperIdentity, HasProperPayload}
 use Rattle.entry_bytes.proofs.Lengths.{changes_few, each_few, one_more}
 use Rattle.entry_bytes.proofs.writing.commands.put_changes.Goals as goal

@@ -1,6 +1,6 @@
 use Rattle.std.proofs.Common.{◌≡◌, ◌++◌, take}
 use Rattle.std.specs.List.{flat_map, All}
-use Rattle.entry_bytes.specs.Spelling.{change_bytes}
+use Rattle.api_records.specs.Spelling.{change_bytes}
 use Rattle.entry_bytes.specs.Sound.{HasProperIdentity, HasProperPayload}
 use Rattle.entry_bytes.proofs.writing.commands.put_changes.Given as goal
 

@@ -1,6 +1,6 @@
 use Rattle.std.proofs.Common.{subst}
 use Rattle.std.proofs.lemmas.List.Elements.{All-more}
-use Rattle.entry_bytes.specs.Spelling.{id_bytes}
+use Rattle.api_records.specs.Spelling.{id_bytes}
 use Rattle.entry_bytes.specs.Sound.{IsId}
 use Rattle.entry_bytes.proofs.Lengths.{one_more}
 use Rattle.entry_bytes.proofs.writing.parts.put_ids.Goals as goal

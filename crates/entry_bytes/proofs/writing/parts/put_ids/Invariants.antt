@@ -1,6 +1,6 @@
 use Rattle.std.proofs.Common.{◌≡◌, ◌++◌, take}
 use Rattle.std.specs.List.{flat_map, All}
-use Rattle.entry_bytes.specs.Spelling.{id_bytes}
+use Rattle.api_records.specs.Spelling.{id_bytes}
 use Rattle.entry_bytes.specs.Sound.{IsId}
 use Rattle.entry_bytes.proofs.writing.parts.put_ids.Given as goal
 

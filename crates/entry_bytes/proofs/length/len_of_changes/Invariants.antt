@@ -1,8 +1,0 @@
-use Rattle.std.proofs.Common.{◌≡◌, take}
-use Rattle.std.specs.List.{flat_map}
-use Rattle.doc_value.specs.Length.{plus}
-use Rattle.entry_bytes.specs.Spelling.{change_bytes}
-use Rattle.entry_bytes.proofs.length.len_of_changes.Given as goal
-
-abbrev pub invariant-loop-change : goal.invariant-loop-change
-invariant-loop-change l = l.total ≡ plus l.initial.total (flat_map change_bytes (take l.change-index l.changes))
