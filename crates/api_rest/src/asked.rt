@@ -190,6 +190,7 @@ fn write_at(
 }
 
 /// What is to be deleted.
+#[tactic(auto, using(api_records::proofs::Lengths::lengths))]
 fn delete_at(alloc: Global, what: Deleted, params: &Params<'_, '_>) -> Result<Asked, RestError>
     requires { AllText (parts_of params.now) }
     ensures exact { Gives result (delete_at what (parts_of params.now)) }

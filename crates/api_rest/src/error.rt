@@ -27,7 +27,7 @@ pub enum RestError {
     BadParameter { key: Text },
     /// The body asks for no command.
     BadBody { why: BodyError },
-    /// No memory was found.
+    /// No memory was found, or the command's entry would be too long to be kept.
     Memory,
 }
 

@@ -1,9 +1,11 @@
 //! What a request asks for.
 
-ghost use Rattle.std.specs.Prelude.{◌≡◌, IfOk};
+ghost use Rattle.std.specs.Prelude.{◌≡◌, Ok, IfOk};
 ghost use Rattle.doc_value.specs.Document.{IsSound};
 ghost use Rattle.doc_value.specs.Seen.{document};
 ghost use Rattle.api_records.specs.Bodies.{HasIds, command_in};
+ghost use Rattle.api_records.specs.Storable.{HasRightParts};
+ghost use Rattle.entry_codec.specs.declared.call.Call.TheVariants.{Write};
 ghost use Rattle.api_rest.specs.Routes.{no_document, written, in_body, called, routed, Gives, IsStorableCall, IsReady};
 
 use crate::asked::{Asked, asked_of};
@@ -34,6 +36,19 @@ fn no_document(error: DocError) -> RestError
     }
 }
 
+/// The call of a command, where an entry with it has at most 2^27 bytes. A longer one couldn't be kept, and is answered as want of
+/// memory. No body within its limit of 64 MiB is expected to ask for one.
+fn in_entry(command: Command) -> Result<Call, RestError>
+    requires { HasRightParts command }
+    ensures exact { Gives result (Ok (Write command)) }
+    ensures storable { IfOk result IsStorableCall }
+{
+    if !command.is_short() {
+        return Err(RestError::Memory);
+    }
+    Ok(Call::Write(command))
+}
+
 /// The command that a document asks for, with the ids of its route.
 fn in_document(
     alloc: Global,
@@ -48,7 +63,7 @@ fn in_document(
     ensures storable { IfOk result IsStorableCall }
 {
     match Command::from_body(alloc, kind, doc, ids, branch) {
-        Ok(command) => Ok(Call::Write(command)),
+        Ok(command) => in_entry(command),
         Err(ShapeError::BadShape { key }) => Err(RestError::BadBody {
             why: BodyError::BadShape { key },
         }),
@@ -87,7 +102,8 @@ fn called(alloc: Global, asked: Asked, body: &[u8]) -> Result<Call, RestError>
 }
 
 /// The call of a request, or why it asks for none. Errors come in the order of the error's variants. A body of one whose call takes
-/// none is ignored. The command of a call can be stored.
+/// none is ignored. The command of a call can be stored. `Memory` comes where memory is wanting, or for a command whose entry would have
+/// more than 2^27 bytes.
 pub fn route(alloc: Global, routes: &Routes, request: &Request) -> Result<Call, RestError>
     ensures exact { Gives result (routed request.now) }
     ensures storable { IfOk result IsStorableCall }
