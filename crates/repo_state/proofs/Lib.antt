@@ -5,3 +5,4 @@ mod ListLemmas
 mod Committed
 mod Steps
 mod Following
+pub mod OpeningLemmas

@@ -1,5 +1,5 @@
 -- Lists of ids: those that are listed are those of serials that were drawn.
-use Rattle.std.proofs.Common.{arith, ◌≡◌, ℕ, zero, suc, ◌<◌, ◌≤◌, ◌==◌, ◌&&◌, ◌||◌, Bool, true, false, cond, List, [], ◌∷◌, ◌++◌, length, Option, Some, None, inl, inr, is_some, IsSome, eq-eqb, refl, ap, ap₂, sym, ◌∙◌}
+use Rattle.std.proofs.Common.{arith, ◌≡◌, ℕ, zero, suc, ◌<◌, ◌≤◌, ◌==◌, ◌&&◌, ◌||◌, Bool, true, false, cond, List, [], ◌∷◌, ◌++◌, Option, Some, None, inl, inr, is_some, IsSome, eq-eqb, refl, ap, ap₂, sym, ◌∙◌}
 use Rattle.std.specs.List.{filter, list_any, AllByRecursion}
 use Rattle.std.specs.List.Sorted.{IsStrictlySortedBy}
 use Rattle.std.specs.Ordering.{nat_cmp}
@@ -11,16 +11,14 @@ use Rattle.std.proofs.lemmas.Cmp.{nat_cmp_total}
 use Rattle.std.proofs.lemmas.Map.Lookups.{btree_set_from_contains, exact_unsigned}
 use Rattle.std.proofs.lemmas.Grind.{common_steps}
 use Rattle.sysapi_base.specs.Id.{made_id}
-use Rattle.timeline.specs.Values.{value_at}
 use Rattle.api_records.specs.Sets.{has}
 use Rattle.entry_codec.specs.declared.entry.Entry.{Entry}
 use Rattle.entry_codec.specs.Histories.{Tables, tables, tables_at, owned, first_entries}
 use Rattle.entry_codec.specs.Replies.{drawn}
 use Rattle.entry_codec.proofs.Drawn.{IsOld, old_project, old_branch, old_tag, old_commit}
-use Rattle.repo_state.specs.Stands.{StandsFor, commit_shown}
+use Rattle.repo_state.specs.Stands.{StandsFor}
 use Rattle.repo_state.specs.Lists.{is_listed, ids_listed, records_at}
 use Rattle.repo_state.specs.declared.state.State.{State}
-use Rattle.repo_state.specs.declared.data.CommitData.{CommitData}
 use Rattle.repo_state.specs.declared.list.Kind.{Kind}
 use Rattle.repo_state.specs.declared.list.Kind.TheVariants.{Projects, Branches, Tags, Commits}
 use Rattle.repo_state.proofs.Entries.{same_id}
