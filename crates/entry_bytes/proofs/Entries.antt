@@ -95,7 +95,7 @@ length_entry e = omega (arith, length-append (number_bytes w64 e.moment) (comman
 short_entry : (e : Entry) → length (entry_bytes e) ≤ 2 ^ 27 → IsShort e.command
 short_entry e le = omega (arith, le, length_entry e)
 
-entry_short : (e : Entry) → IsShort e.command → length (entry_bytes e) ≤ 2 ^ 27
+pub entry_short : (e : Entry) → IsShort e.command → length (entry_bytes e) ≤ 2 ^ 27
 entry_short e le = omega (arith, le, length_entry e)
 
 -- ---- the laws

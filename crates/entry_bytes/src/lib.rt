@@ -27,7 +27,7 @@ mod writing;
 pub use error::DecodeError;
 pub use laws::one_spelling;
 pub use reading::decode;
-pub use writing::encode;
+pub use writing::{encode, encode_command};
 
 #[cfg(test)]
 mod tests;
