@@ -1,0 +1,3 @@
+pub mod Loading
+pub mod Committing
+pub mod Again

@@ -1,0 +1,4 @@
+pub mod Stored
+pub mod Opening
+pub mod Commands
+pub mod Laws
