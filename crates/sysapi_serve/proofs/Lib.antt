@@ -1,5 +1,10 @@
 pub mod SendLemmas
+pub mod LeadLemmas
 pub mod TurnLemmas
+pub mod HeardLemmas
 pub mod SessionLemmas
+pub mod SessionLeads
 pub mod LawLemmas
-pub mod OfflineLemmas
+pub mod PieceLemmas
+pub mod BeginLemmas
+pub mod OverLemmas

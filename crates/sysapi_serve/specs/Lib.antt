@@ -1,7 +1,9 @@
 pub mod Texts
-pub mod Sessions
 pub mod Kept
+pub mod Sessions
 pub mod Alone
 pub mod Parts
 pub mod Offline
+pub mod Words
+pub mod Begin
 pub mod Laws

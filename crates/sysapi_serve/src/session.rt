@@ -1,17 +1,18 @@
 //! The session: turn by turn a request is answered, or more is read.
 
-ghost use Rattle.std.specs.Prelude.{◌≡◌, ◌⊎◌, ◌<◌, ◌^◌, ◌++◌, ℕ, List, length};
-ghost use Rattle.std.specs.Io.KnownBytes.{Consumes, IsAtEnd};
-ghost use Rattle.sysapi_base.specs.Outside.{Grows, Passes};
-ghost use Rattle.sysapi_serve.specs.Sessions.{IsSession, IsAlone, IsFaultless};
-ghost use Rattle.sysapi_serve.specs.Alone.{unbounded, IsServed};
+ghost use Rattle.std.specs.Prelude.{◌≡◌, ◌⊎◌};
+ghost use Rattle.std.specs.Io.KnownBytes.{IsAtEnd};
+ghost use Rattle.sysapi_base.specs.Outside.{Passes};
+ghost use Rattle.sysapi_serve.specs.Kept.{Leads, IsSteadyRepo, GoesOn};
+ghost use Rattle.sysapi_serve.specs.Alone.{Serves};
 ghost use Rattle.sysapi_serve.specs.Parts.{read_result, write_result};
 
 use crate::outcome::{Outcome, Served};
-use crate::repo::Repo;
 use crate::turn::{More, Turn, close_busy, read_more, take_turn};
 use api_rest::Routes;
 use http_wire::Feed;
+use journal_disk::Keeper;
+use shared_repo::Repo;
 use std::alloc::Global;
 use sysapi_base::{Clock, Memory, Sink, Source};
 
@@ -23,16 +24,17 @@ pub const BYTES_MOST: u64 = 1_099_511_627_776;
 
 /// Answers the requests of the source, one after another, until it ends, or until one can't be read or answered. The table of the
 /// routes is made first, once for the session; without memory for it the session ends before it reads.
-pub fn serve_alone<S: Source, K: Sink, C: Clock>(
+pub fn serve_alone<S: Source, K: Sink, Q: Keeper, C: Clock>(
     alloc: Global,
-    repo: &mut Repo,
+    repo: &mut Repo<Q>,
     source: &mut S,
     sink: &mut K,
     clock: &mut C,
 ) -> Served
-    requires { length repo.old.history < 2 ^ 35 }
-    ensures session { IsServed repo.old repo.new (S.left source.old) (S.left source.new) (K.taken sink.old) (K.taken sink.new)
-        (C.readings clock.old) (C.readings clock.new) result }
+    ensures session { Leads Q.figures Q.records Q.faults repo.old repo.new
+        (Serves Q.costs (IsSteadyRepo Q.IsSteady repo.old) (S.left source.old) (S.left source.new) (K.taken sink.old) (K.taken sink.new)
+        (C.readings clock.old) (C.readings clock.new) result) }
+    ensures keeper { GoesOn Q.records Q.faults Q.IsSteady repo.old repo.new }
     ensures ended { result.outcome ≡ Outcome.Ended ⊎ (result.outcome ≡ Outcome.CutShort) → IsAtEnd (S.left source.new) }
     ensures source { Passes S.faults S.IsSteady source.old source.new (read_result result.outcome) }
     ensures sink { Passes K.faults K.IsSteady sink.old sink.new (write_result result.outcome) }
@@ -50,17 +52,18 @@ pub fn serve_alone<S: Source, K: Sink, C: Clock>(
 }
 
 /// The session over a table of the routes.
-fn serve_routed<S: Source, K: Sink, C: Clock>(
+fn serve_routed<S: Source, K: Sink, Q: Keeper, C: Clock>(
     alloc: Global,
     routes: &Routes,
-    repo: &mut Repo,
+    repo: &mut Repo<Q>,
     source: &mut S,
     sink: &mut K,
     clock: &mut C,
 ) -> Served
-    requires { length repo.old.history < 2 ^ 35 }
-    ensures session { IsServed repo.old repo.new (S.left source.old) (S.left source.new) (K.taken sink.old) (K.taken sink.new)
-        (C.readings clock.old) (C.readings clock.new) result }
+    ensures session { Leads Q.figures Q.records Q.faults repo.old repo.new
+        (Serves Q.costs (IsSteadyRepo Q.IsSteady repo.old) (S.left source.old) (S.left source.new) (K.taken sink.old) (K.taken sink.new)
+        (C.readings clock.old) (C.readings clock.new) result) }
+    ensures keeper { GoesOn Q.records Q.faults Q.IsSteady repo.old repo.new }
     ensures ended { result.outcome ≡ Outcome.Ended ⊎ (result.outcome ≡ Outcome.CutShort) → IsAtEnd (S.left source.new) }
     ensures source { Passes S.faults S.IsSteady source.old source.new (read_result result.outcome) }
     ensures sink { Passes K.faults K.IsSteady sink.old sink.new (write_result result.outcome) }

@@ -2,12 +2,14 @@ mod branches;
 mod changes;
 mod commits;
 mod flag;
+mod keeping;
 mod projects;
 mod routes;
 mod rows;
 mod tags;
 
 use super::*;
+use journal_disk::MemoryDisk;
 use std::alloc::Global;
 use std::test::Fail;
 use sysapi_base::{MemoryClock, MemorySink, MemorySource, Moment};
@@ -78,16 +80,17 @@ fn run(
     }
     let mut complaints = MemorySink::new(alloc);
     let mut clock = MemoryClock::new(Moment::at_most(NOW), 0);
-    let status = run_offline(
+    let ran = run_offline(
         alloc,
         &words,
         &mut source,
         &mut sink,
         &mut complaints,
+        MemoryDisk::new(alloc),
         &mut clock,
     );
     Ok(Ran {
-        status,
+        status: ran.status,
         output: Vec::from_slice(alloc, sink.bytes().ok_or("the sink tells")?)?,
         complaints: Vec::from_slice(alloc, complaints.bytes().ok_or("the complaints tell")?)?,
     })

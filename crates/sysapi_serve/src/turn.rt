@@ -1,6 +1,6 @@
 //! One turn of a session: the request at the front is answered, or more is read.
 
-ghost use Rattle.std.specs.Prelude.{◌≡◌, ◌≢◌, ◌<◌, ◌^◌, ◌⊎◌, ℕ, List, [], Result, Ok, IsErr, IfOk, OnOk, OnErr, length};
+ghost use Rattle.std.specs.Prelude.{◌≡◌, ◌≢◌, ◌<◌, ◌⊎◌, ℕ, List, [], Result, Ok, IsErr, IfOk, OnOk, length};
 ghost use Rattle.sysapi_base.specs.Outside.{Grows, Passes};
 ghost use Rattle.http_wire.specs.Fronts.{refused, IsFront};
 ghost use Rattle.http_wire.specs.Responses.{HasPhrase, response_text};
@@ -8,21 +8,22 @@ ghost use Rattle.api_records.specs.Storable.{IsStorable};
 ghost use Rattle.entry_codec.specs.declared.entry.Entry.{Entry as Accept};
 ghost use Rattle.entry_codec.specs.declared.call.Call.{Call as Asked};
 ghost use Rattle.entry_codec.specs.Replies.{IsSoundReply, reply};
+ghost use Rattle.repo_state.specs.Stands.{StandsFor, repository_of};
 ghost use Rattle.api_rest.specs.declared.error.RestError.{RestError as RestFault};
-ghost use Rattle.api_rest.specs.Routes.{IsError, IsStorableCall};
-ghost use Rattle.sysapi_serve.specs.Kept.{past, with_entry};
-ghost use Rattle.sysapi_serve.specs.Texts.{response_to, reply_text, error_text, text_of, wire_text};
-ghost use Rattle.sysapi_serve.specs.Sessions.{entry_for};
-ghost use Rattle.sysapi_serve.specs.Parts.{after, Judges, Sends, Closes, CutsAnswer, TurnDoes, ReadDoes, IsGotWithin, turn_result, more_result, write_result};
+ghost use Rattle.api_rest.specs.Routes.{IsError, IsStorableCall, routed};
+ghost use Rattle.sysapi_serve.specs.Kept.{Leads, IsSteadyRepo, GoesOn};
+ghost use Rattle.sysapi_serve.specs.Texts.{reply_text, error_text, text_of, wire_text};
+ghost use Rattle.sysapi_serve.specs.Parts.{Judges, Sent, Sends, Closes, CutsAnswer, TurnDoes, FeedDoes, ReadDoes, IsGotWithin, status_of, turn_result, more_result, write_result};
 
 use crate::outcome::Outcome;
-use crate::repo::Repo;
 use crate::send::send;
 use api_records::Command;
 use api_rest::{RestError, Routes, is_head, respond, respond_error, respond_wire, route};
-use entry_codec::{Call, Entry, Reply};
+use entry_codec::{Call, ReadCall, Reply};
 use http_wire::{Feed, Request, WireError, fixed_response, write_response};
-use repo_state::{AcceptError, Accepted};
+use journal_disk::Keeper;
+use repo_state::State;
+use shared_repo::{Repo, WriteError, Written};
 use std::alloc::Global;
 use sysapi_base::{Bytes, Clock, Failed, Memory, Moment, Sink, Source};
 
@@ -31,6 +32,41 @@ pub(crate) enum Turn {
     Answered,
     Waits,
     Ends(Outcome),
+}
+
+/// What stands in place of a response.
+#[derive(Clone, Copy)]
+pub(crate) enum Instead {
+    /// A call of the keeper failed: 500.
+    Fault,
+    /// The record of the command doesn't fit: 507.
+    Full,
+    /// No memory was found: 503.
+    Memory,
+}
+
+impl Instead {
+    /// The status of the fixed response.
+    fn status(self) -> u16
+        ensures { result ≡ status_of self }
+    {
+        match self {
+            Instead::Fault => 500,
+            Instead::Full => 507,
+            Instead::Memory => 503,
+        }
+    }
+}
+
+impl From<Memory> for Instead {
+    ghost use Rattle.std.specs.Prelude.{◌≡◌};
+    ghost use Rattle.sysapi_serve.specs.declared.turn.Instead.TheVariants as Instead;
+
+    ghost from_gives = { λ _ e. e ≡ Instead.Memory };
+
+    fn from(_error: Memory) -> Instead {
+        Instead::Memory
+    }
 }
 
 /// What a read gave.
@@ -55,55 +91,44 @@ fn reply_text(
     write_response(alloc, &response)
 }
 
-/// The bytes that answer a command, whose entry then stands behind the others where it isn't refused. All memory is found before it
-/// does.
-fn accept(
+/// The bytes that answer a command. Its entry is kept by then where it is accepted; for its response there may be no memory even so.
+fn write<Q: Keeper>(
     alloc: Global,
-    repo: &mut Repo,
+    repo: &mut Repo<Q>,
     request: &Request,
     moment: Moment,
-    command: Command,
-) -> Result<Vec<u8>, Memory>
-    requires few { length repo.old.history < 2 ^ 60 }
-    requires storable { IsStorable command }
-    ensures ok { IfOk result (λ text. text.items ≡ reply_text request.now moment (reply repo.old.repository (past repo.old) moment (Call.Write command))) }
-    ensures accepted { OnOk result (repo.new ≡ with_entry repo.old (entry_for repo.old.repository (past repo.old) moment (Ok (Call.Write command)))) }
-    ensures err { OnErr result (repo.new ≡ repo.old) }
+    command: &Command,
+) -> Result<Vec<u8>, Instead>
+    requires { IsStorable command.now }
+    ensures judges { Leads Q.figures Q.records Q.faults repo.old repo.new
+        (Judges (λ v. v.items) Q.costs (IsSteadyRepo Q.IsSteady repo.old) request.now moment (Ok (Call.Write command.now)) result) }
+    ensures keeper { GoesOn Q.records Q.faults Q.IsSteady repo.old repo.new }
 {
-    match repo.state().accept(alloc, moment, &command) {
-        Ok(Accepted { state, reply }) => {
-            let text = reply_text(alloc, request, reply, moment)?;
-            repo.keep(state, Entry { moment, command })?;
-            Ok(text)
+    match repo.command(alloc, moment, command) {
+        Ok(Written { reply, .. }) => Ok(reply_text(alloc, request, reply, moment)?),
+        Err(WriteError::Refused { refusal, .. }) => {
+            let reply = Reply::Refused(refusal);
+            Ok(reply_text(alloc, request, reply, moment)?)
         }
-        Err(AcceptError::Refused(why)) => {
-            reply_text(alloc, request, Reply::Refused(why), moment)
-        }
-        Err(AcceptError::Memory) => Err(Memory),
+        Err(WriteError::Fault) => Err(Instead::Fault),
+        Err(WriteError::Full { .. }) => Err(Instead::Full),
+        Err(WriteError::Memory) => Err(Instead::Memory),
     }
 }
 
-/// The bytes that answer a call. Where no memory was found nothing is accepted.
-fn answer_call(
+/// The bytes that answer a look-up.
+fn read(
     alloc: Global,
-    repo: &mut Repo,
+    state: &State,
     request: &Request,
     moment: Moment,
-    call: Call,
+    call: &ReadCall,
 ) -> Result<Vec<u8>, Memory>
-    requires few { length repo.old.history < 2 ^ 60 }
-    requires storable { IsStorableCall call }
-    ensures ok { IfOk result (λ text. text.items ≡ reply_text request.now moment (reply repo.old.repository (past repo.old) moment call)) }
-    ensures accepted { OnOk result (repo.new ≡ with_entry repo.old (entry_for repo.old.repository (past repo.old) moment (Ok call))) }
-    ensures err { OnErr result (repo.new ≡ repo.old) }
+    ensures { IfOk result (λ text. (past : List Accept) → StandsFor state.now past
+        → text.items ≡ reply_text request.now moment (reply (repository_of state.now) past moment (Call.Read call.now))) }
 {
-    match call {
-        Call::Write(command) => accept(alloc, repo, request, moment, command),
-        Call::Read(call) => {
-            let reply = repo_read::answer(alloc, repo.state(), &call)?;
-            reply_text(alloc, request, reply, moment)
-        }
-    }
+    let reply = repo_read::answer(alloc, state, call)?;
+    reply_text(alloc, request, reply, moment)
 }
 
 /// The bytes that tell why a request asks for no call.
@@ -134,48 +159,47 @@ fn without_body(alloc: Global, request: Request) -> Request
     }
 }
 
-/// The bytes that answer a request. A command that is accepted has its entry behind the others then; where no memory was found
-/// nothing is accepted.
-fn judge(
+/// The bytes that answer a request, or what stands in place of its response.
+fn judge<Q: Keeper>(
     alloc: Global,
     routes: &Routes,
-    repo: &mut Repo,
+    repo: &mut Repo<Q>,
     request: Request,
     moment: Moment,
-) -> Result<Vec<u8>, Memory>
-    requires { length repo.old.history < 2 ^ 60 }
-    ensures ok { IfOk result (λ text. text.items ≡ response_to repo.old.repository (past repo.old) request moment) }
-    ensures accepted { OnOk result (repo.new ≡ after repo.old request moment) }
-    ensures err { OnErr result (repo.new ≡ repo.old) }
+) -> Result<Vec<u8>, Instead>
+    ensures judges { Leads Q.figures Q.records Q.faults repo.old repo.new
+        (Judges (λ v. v.items) Q.costs (IsSteadyRepo Q.IsSteady repo.old) request moment (routed request) result) }
+    ensures keeper { GoesOn Q.records Q.faults Q.IsSteady repo.old repo.new }
 {
     let routed = route(alloc, routes, &request);
     let request = without_body(alloc, request);
     match routed {
-        Ok(call) => answer_call(alloc, repo, &request, moment, call),
-        Err(error) => answer_error(alloc, &request, moment, &error),
+        Ok(Call::Write(command)) => write(alloc, repo, &request, moment, &command),
+        Ok(Call::Read(call)) => Ok(read(alloc, repo.state(), &request, moment, &call)?),
+        Err(error) => Ok(answer_error(alloc, &request, moment, &error)?),
     }
 }
 
-/// Judges a request and writes its response.
-fn answer<K: Sink>(
+/// Judges a request and writes its response, or what stands in place of it.
+fn answer<Q: Keeper, K: Sink>(
     alloc: Global,
     routes: &Routes,
-    repo: &mut Repo,
+    repo: &mut Repo<Q>,
     request: Request,
     moment: Moment,
     sink: &mut K,
 ) -> Result<(), Failed>
-    requires { length repo.old.history < 2 ^ 60 }
-    ensures sent { (text : List ℕ) × Judges repo.old request moment text repo.new
-        × Sends (K.taken sink.old) (K.taken sink.new) text result }
+    ensures sent { Leads Q.figures Q.records Q.faults repo.old repo.new
+        (Sent Q.costs (IsSteadyRepo Q.IsSteady repo.old) request moment (K.taken sink.old) (K.taken sink.new) result) }
+    ensures keeper { GoesOn Q.records Q.faults Q.IsSteady repo.old repo.new }
     ensures passes { Passes K.faults K.IsSteady sink.old sink.new result }
 {
     let close = request.close;
     let no_body = is_head(&request);
     match judge(alloc, routes, repo, request, moment) {
         Ok(text) => send(sink, &text),
-        Err(Memory) => {
-            let text = fixed_response(503, moment, close, no_body);
+        Err(instead) => {
+            let text = fixed_response(instead.status(), moment, close, no_body);
             send(sink, text.as_slice())
         }
     }
@@ -228,16 +252,18 @@ fn refuse<K: Sink>(alloc: Global, error: WireError, moment: Moment, sink: &mut K
 }
 
 /// Answers the request at the front of the feed, where one stands there. The clock is read once for it.
-pub(crate) fn take_turn<K: Sink, C: Clock>(
+pub(crate) fn take_turn<Q: Keeper, K: Sink, C: Clock>(
     alloc: Global,
     routes: &Routes,
-    repo: &mut Repo,
+    repo: &mut Repo<Q>,
     feed: &mut Feed,
     sink: &mut K,
     clock: &mut C,
 ) -> Turn
-    requires { length repo.old.history < 2 ^ 60 }
-    ensures does { TurnDoes repo.old repo.new (K.taken sink.old) (K.taken sink.new) (C.readings clock.old) (C.readings clock.new) feed.old feed.new result }
+    ensures does { Leads Q.figures Q.records Q.faults repo.old repo.new
+        (TurnDoes Q.costs (IsSteadyRepo Q.IsSteady repo.old) (K.taken sink.old) (K.taken sink.new) (C.readings clock.old) (C.readings clock.new) feed.old feed.new result) }
+    ensures feeds { FeedDoes feed.old feed.new result }
+    ensures keeper { GoesOn Q.records Q.faults Q.IsSteady repo.old repo.new }
     ensures passes { Passes K.faults K.IsSteady sink.old sink.new (turn_result result) }
 {
     match feed.next(alloc) {

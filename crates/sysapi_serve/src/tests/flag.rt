@@ -3,7 +3,9 @@
 ghost use Rattle.std.specs.Prelude.{◌≤◌, length};
 
 use super::{CREATED, FOUND, GET, NOW, POST, PROJECT, joined};
-use crate::{Outcome, REPOSITORY, Repo, Served, serve_alone};
+use crate::{Outcome, REPOSITORY, ROOM, Served, serve_alone};
+use journal_disk::MemoryKeeper;
+use shared_repo::Repo;
 use std::alloc::Global;
 use std::sync::atomic::{AtomicBool, Ordering};
 use std::test::Fail;
@@ -92,7 +94,10 @@ fn served(alloc: Global, due: usize) -> Result<(Served, Vec<u8>), Fail> {
         flag: &flag,
     };
     let mut clock = MemoryClock::new(Moment::at_most(NOW), 0);
-    let mut repo = Repo::start(alloc, REPOSITORY);
+    let keeper = MemoryKeeper::new(alloc, REPOSITORY, ROOM);
+    let Ok(mut repo) = Repo::open(alloc, keeper) else {
+        return Err(Fail::from("an empty keeper is opened"));
+    };
     let served = serve_alone(alloc, &mut repo, &mut source, &mut sink, &mut clock);
     let taken = sink.taken.bytes().ok_or("the sink tells")?;
     Ok((served, Vec::from_slice(alloc, taken)?))

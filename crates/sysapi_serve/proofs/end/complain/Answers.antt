@@ -1,6 +1,6 @@
 use Rattle.std.proofs.Common.{ℕ, List, subst}
 use Rattle.sysapi_serve.specs.Parts.{Sends}
-use Rattle.sysapi_serve.proofs.offline.complain.Goals as goal
+use Rattle.sysapi_serve.proofs.end.complain.Goals as goal
 
 pub returns : goal.returns
 returns g c = (
