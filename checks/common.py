@@ -93,9 +93,11 @@ def check_end(ran, status, complaint):
         raise Wrong(f"status {ran.status} with {ran.complaint!r}, and not {status} with {complaint!r}")
 
 
-def check_responses(expected, ran):
-    """Standard output is the expected responses, joined, up to moments that are right and agree with one another."""
-    at, created = 0, {}
+def check_responses(expected, ran, created=None):
+    """Standard output is the expected responses, joined, up to moments that are right and agree with one another.
+
+    `created` has the moments of the records that were there before, by their ids, and gets those that are made."""
+    at, created = 0, {} if created is None else created
     for place, wanted in enumerate(expected):
         wanted = wanted.encode("utf-8")
         wrote = ran.output[at : at + len(wanted)]
@@ -187,9 +189,10 @@ def response(status, length, body, *more):
     return "\r\n".join(lines)
 
 
-def made_id(serial):
-    """The id that repository 1 makes of this serial."""
-    return f"00000000-0001-8000-8000-{serial:012x}"
+def made_id(serial, repository=1):
+    """The id that a repository makes of this serial."""
+    number = f"{repository:012x}"
+    return f"{number[:8]}-{number[8:]}-8000-8000-{serial:012x}"
 
 
 def bare(method, path):

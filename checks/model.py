@@ -225,18 +225,19 @@ def judge(asked, branch):
 
 
 class Repository:
-    """The projects of one run, and the next serial. A call takes the request, and then the ids of its path."""
+    """The projects of a repository of this number, and the next serial. A call takes the request, and the ids of its path."""
 
-    def __init__(self):
+    def __init__(self, number=1):
+        self.number = number
         self.projects = {}
         self.serial = 0
 
     def draw(self, taken=()):
         """A new id, of the least serial from the next one on whose id isn't taken."""
-        while made_id(self.serial) in taken:
+        while made_id(self.serial, self.number) in taken:
             self.serial += 1
         self.serial += 1
-        return made_id(self.serial - 1)
+        return made_id(self.serial - 1, self.number)
 
     def answer(self, request):
         try:
@@ -431,9 +432,9 @@ def branch_parameter(request):
     return id_of(values[0]) if values else None
 
 
-def session(stream):
-    """The responses to a stream, and the status and the complaint at its end."""
-    repository, responses, at = Repository(), [], 0
+def session(stream, repository=None):
+    """The responses to a stream over a repository, a new one where none is told, and the status and the complaint at its end."""
+    repository, responses, at = repository or Repository(), [], 0
     while at < len(stream):
         found = front(stream, at)
         if found is None:

@@ -176,12 +176,15 @@ def built():
 def words():
     """Words that the program has not: one line, a status, and nothing read."""
     for given in ((), ("-",), ("-", "Once"), ("-", "once", "once"), ("-", "once", ""), ("-", ""), ("-", "serve"),
-                  ("-", "check"), ("-", "--help"), ("-", "--", "once"), ("-", "once", "--room", "4096")):  # fmt: skip
+                  ("-", "check", "check"), ("-", "check", "once"), ("-", "once", "check"), ("-", "check", "--room", "5"),
+                  ("-", "--help"), ("-", "--", "once"), ("-", "once", "--room", "4096")):  # fmt: skip
         name = f"bad words: {' '.join(given) or 'none'}"
         yield Row(name, POST_P, [], 2, BAD_WORDS, words=given, reads_nothing=True)
-    for given in (("once",), ("",), ("x", "once"), ("x",), ("--", "once"), ("--help",)):
-        name = f"another first word than -: {' '.join(given)}"
+    # (other first words are paths of files, which the checks of the journal try)
+    for given in (("",), ("", "once"), ("", "check")):
+        name = f"an empty first word: {' '.join(given)}"
         yield Row(name, POST_P, [], 1, CANNOT_OPEN, words=given, reads_nothing=True)
+    yield Row("`check` of a new disk in memory", POST_P, [], 4, "sysapi: damaged at 0\n", words=("-", "check"), reads_nothing=True)
 
 
 class Fault:
