@@ -4,3 +4,5 @@ pub mod Inserted
 pub mod Heights
 pub mod Removed
 pub mod Ranges
+pub mod Numbered
+pub mod Chunks

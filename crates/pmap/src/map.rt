@@ -34,7 +34,7 @@ impl<K: Ord + Copy, V> Model for PMap<K, V> {
 }
 
 // No memory holds so many entries.
-const MOST: u64 = 0x3fff_ffff_ffff_ffff;
+pub(crate) const MOST: u64 = 0x3fff_ffff_ffff_ffff;
 
 impl<K: Ord + Copy, V: Drop> PMap<K, V> {
     /// No entries. It takes no memory.

@@ -1,5 +1,7 @@
 //! Good paths, each generic call once, and what threads may share.
 
+mod list;
+
 ghost use Rattle.std.specs.Prelude.{◌≡◌, ◌<◌};
 
 use crate::{PMap, Steps};

@@ -1,0 +1,4 @@
+use Rattle.pmap.proofs.tests.list.tens.Goals as goal
+
+pub loop-preserved : goal.loop-preserved
+loop-preserved c = tt
