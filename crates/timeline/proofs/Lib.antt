@@ -1,6 +1,6 @@
 pub mod Entries
 pub mod Lists
-pub mod Numbered
+pub mod Seeing
 pub mod Saying
 pub mod Listing
 pub mod Changing

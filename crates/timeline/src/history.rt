@@ -4,7 +4,7 @@ ghost use Rattle.std.specs.List.Sorted.{IsNonDecreasingBy, IsPartitionPoint};
 ghost use Rattle.timeline.specs.Values.{last_said};
 ghost use Rattle.timeline.specs.Seen.{seen};
 
-use pmap::PMap;
+use pmap::PList;
 use std::alloc::Global;
 use std::marker::Model;
 use std::sync::Arc;
@@ -21,7 +21,7 @@ struct Entry<T> {
 /// new history and leaves the one before as it was; both share the changes that they have in common.
 #[derive(Drop)]
 pub struct History<T> {
-    entries: PMap<u64, Entry<T>>,
+    entries: PList<Entry<T>>,
 }
 
 impl<T> Model for History<T> {
@@ -45,7 +45,7 @@ impl<T: Drop> History<T> {
         ensures { result ≡ [] }
     {
         History {
-            entries: PMap::new(),
+            entries: PList::new(),
         }
     }
 
@@ -56,7 +56,7 @@ impl<T: Drop> History<T> {
         self.value_of(self.past(n).checked_sub(1)?)
     }
 
-    /// These changes and one more. It copies the path to the last change, and shares all else.
+    /// These changes and one more. It copies the last chunk of them by its pointers, and shares all else.
     pub fn with(
         &self,
         alloc: Global,
@@ -68,7 +68,7 @@ impl<T: Drop> History<T> {
     {
         let entry = Arc::new(alloc, Entry { from, value })?;
         Ok(History {
-            entries: self.entries.insert(alloc, self.entries.len(), entry)?,
+            entries: self.entries.push(alloc, entry)?,
         })
     }
 
@@ -118,6 +118,6 @@ impl<T: Drop> History<T> {
     fn entry(&self, number: u64) -> Option<&Entry<T>>
         ensures { option_map (λ e. seen e.now) result ≡ slice_get self.now number }
     {
-        self.entries.find(&number)
+        self.entries.get(number)
     }
 }

@@ -96,6 +96,20 @@ fn each_of_many_changes_is_found(rt: HostRuntime) -> Result<(), Fail> {
     Ok(())
 }
 
+#[test]
+fn a_timeline_stays_while_others_grow_from_it(rt: HostRuntime) -> Result<(), Fail> {
+    let before = many_changes(rt.alloc()).or(Err("no memory"))?;
+    let one = next_change(rt.alloc(), &before, 201).or(Err("no memory"))?;
+    let other = next_change(rt.alloc(), &before, 202).or(Err("no memory"))?;
+    assert_eq!(rt; value(&before, FIRST, 603), None);
+    assert_eq!(rt; value(&one, FIRST, 603), Some(201));
+    assert_eq!(rt; value(&other, FIRST, 603), Some(202));
+    assert_eq!(rt; before.last(), 600);
+    assert_eq!(rt; one.last(), 603);
+    assert_eq!(rt; value(&other, FIRST, 599), Some(199));
+    Ok(())
+}
+
 // Takes what threads may share and what may be dropped.
 fn may_be_shared<T: Send + Sync + Drop>(_value: T) {}
 

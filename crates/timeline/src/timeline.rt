@@ -8,7 +8,8 @@ use std::sync::Arc;
 use sysapi_base::{Id, Memory};
 
 /// Values by id over the points 0, 1, 2 and so on. A value holds from the point at which it was set up to the next change of
-/// its id. A change makes a new timeline and leaves the one before as it was; both share the values.
+/// its id. A change makes a new timeline and leaves the one before as it was. It copies the path to its id and the last chunk of
+/// the id's changes, and shares all else.
 #[derive(Drop)]
 pub struct Timeline<T> {
     histories: Histories<T>,
@@ -52,9 +53,10 @@ impl<T: Drop> Timeline<T> {
         })
     }
 
-    /// The last point used, 0 where none is.
+    /// The last point used, 0 where none is. From it on every value stays.
     pub fn last(&self) -> u64
-        ensures { result ≡ last_point self.now }
+        ensures value { result ≡ last_point self.now }
+        ensures stays { (q n m : ℕ) → last_point self.now ≤ n → n ≤ m → value_at self.now q m ≡ value_at self.now q n }
     {
         self.last
     }
