@@ -62,34 +62,27 @@ module _ (graph : List (Option ℕ)) where
           let high : dc < k + (da + 1) = lt_from (k + (da + 1)) dc (at (da + 1) ∙ not_more da) in
           omega arith
 
-  -- the depths tell how far back an ancestor stands
-  pub is_there : (a c da dc steps : ℕ) → HasDepth graph a da → HasDepth graph c dc → da + steps ≡ dc → (k : ℕ) → ancestor_at graph c k ≡ Some a → ancestor_at graph c steps ≡ Some a
-  is_there a c da dc steps first second between k is =
-      let at : dc ≡ k + da = depth_between a c da dc k first second is in
-      let same : steps ≡ k = omega arith in
-      ap (ancestor_at graph c) same ∙ is
+  pub same_depth : (c d e : ℕ) → HasDepth graph c d → HasDepth graph c e → d ≡ e
+  same_depth c d e first second = let at : d ≡ 0 + e = depth_between c c e d 0 second first refl in omega arith
 
-  pub not_there : (a c da dc k : ℕ) → HasDepth graph a da → HasDepth graph c dc → dc < da → ancestor_at graph c k ≡ Some a → ⊥
-  not_there a c da dc k first second less is = let at : dc ≡ k + da = depth_between a c da dc k first second is in omega arith
-
--- ancestors are no later
-pub no_later : (graph : List (Option ℕ)) → IsGraph graph → (c k x : ℕ) → ancestor_at graph c k ≡ Some x → x ≤ c
+-- each step back is to an earlier commit
+pub no_later : (graph : List (Option ℕ)) → IsGraph graph → (c k x : ℕ) → ancestor_at graph c k ≡ Some x → k + x ≤ c
 no_later graph is c zero x e = let same : c ≡ x = cc in omega arith
 no_later graph is c (suc k) x e = from (ancestor_at graph c k) (λ y h. no_later graph is c k y h) e
   where
-    from : (o : Option ℕ) → ((y : ℕ) → o ≡ Some y → y ≤ c) → option_and_then (previous_of graph) o ≡ Some x → x ≤ c
+    from : (o : Option ℕ) → ((y : ℕ) → o ≡ Some y → k + y ≤ c) → option_and_then (previous_of graph) o ≡ Some x → suc k + x ≤ c
     from None h e = absurd (no e)
       where
         no : None ≡ Some x → ⊥
         no e = cc
-    from (Some y) h e = let lt : x < y = is y x e in let le : y ≤ c = h y refl in omega arith
+    from (Some y) h e = let lt : x < y = is y x e in let le : k + y ≤ c = h y refl in omega arith
 
 -- a longer graph has the same ancestors of the commits before
 pub ancestors_stay : (graph more : List (Option ℕ)) (c k : ℕ) → IsGraph graph → c < length graph → ancestor_at (graph ++ more) c k ≡ ancestor_at graph c k
 ancestors_stay graph more c zero is lt = refl
 ancestors_stay graph more c (suc k) is lt =
     ap (option_and_then (previous_of (graph ++ more))) (ancestors_stay graph more c k is lt)
-    ∙ step (ancestor_at graph c k) (λ x h. let le : x ≤ c = no_later graph is c k x h in omega arith)
+    ∙ step (ancestor_at graph c k) (λ x h. let le : k + x ≤ c = no_later graph is c k x h in omega arith)
   where
     step : (o : Option ℕ) → ((x : ℕ) → o ≡ Some x → x < length graph) → option_and_then (previous_of (graph ++ more)) o ≡ option_and_then (previous_of graph) o
     step None h = refl
@@ -97,3 +90,6 @@ ancestors_stay graph more c (suc k) is lt =
 
 pub depths_stay : (graph more : List (Option ℕ)) (c d : ℕ) → IsGraph graph → c < length graph → HasDepth graph c d → HasDepth (graph ++ more) c d
 depths_stay graph more c d is lt has k = ap is_some (ancestors_stay graph more c k is lt) ∙ has k
+
+pub depths_before : (graph more : List (Option ℕ)) (c d : ℕ) → IsGraph graph → c < length graph → HasDepth (graph ++ more) c d → HasDepth graph c d
+depths_before graph more c d is lt has k = sym (ap is_some (ancestors_stay graph more c k is lt)) ∙ has k

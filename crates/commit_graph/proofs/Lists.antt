@@ -1,9 +1,6 @@
 -- The previous commits in a longer graph.
-use Rattle.std.proofs.Common.{◌≡◌, ℕ, zero, suc, ◌<◌, ◌≤◌, List, [], ◌∷◌, ◌++◌, length, get_or, option_map, Option, Some, None, refl, sym, ap, ◌∙◌, arith}
+use Rattle.std.proofs.Common.{◌≡◌, ℕ, zero, suc, ◌<◌, ◌≤◌, List, [], ◌∷◌, ◌++◌, length, Option, Some, None, refl, sym, ap, arith}
 use Rattle.std.specs.Prelude.{slice_get, option_and_then, IfSome}
-use Rattle.std.proofs.lemmas.Option.{slice_get-map, slice_get-get_or}
-use Rattle.commit_graph.specs.declared.graph.Commit.{Commit}
-use Rattle.commit_graph.specs.Kept.{previous_numbers}
 use Rattle.commit_graph.specs.Graphs.{previous_of, IsGraph}
 
 module _ {X : Type 0} where
@@ -33,7 +30,3 @@ previous_past graph c le = ap (option_and_then (λ p. p)) (get_past graph c le)
 pub is_earlier : (graph : List (Option ℕ)) (c : ℕ) (o : Option ℕ) → IsGraph graph → o ≡ previous_of graph c → IfSome o (λ p. p < c)
 is_earlier graph c None is e = tt
 is_earlier graph c (Some p) is e = is c p (sym e)
-
-pub previous_at : (cs : List Commit) (c : ℕ) (d : Commit) → c < length cs → (get_or cs c d).previous ≡ previous_of (previous_numbers cs) c
-previous_at cs c d lt =
-    sym (ap (option_and_then (λ p. p)) (slice_get-map (λ (x : Commit). x.previous) cs c ∙ ap (option_map (λ (x : Commit). x.previous)) (slice_get-get_or cs c d lt)))

@@ -1,25 +1,27 @@
 ghost use Rattle.std.specs.Prelude.{◌≡◌, ℕ, ◌<◌, ◌≤◌, ◌↔◌, [], ◌∷◌, ◌++◌, length, IfOk, IfSome, IsErrOf, IsSomeAnd, IsTrue, Some};
-ghost use Rattle.commit_graph.specs.Graphs.{previous_of, ancestor_at, HasDepth, IsGraph, IsEarlier};
-ghost use Rattle.commit_graph.specs.Kept.{previous_numbers, IsKept};
+ghost use Rattle.commit_graph.specs.Graphs.{previous_of, ancestor_at, has_ancestor, HasDepth, IsGraph, IsEarlier};
+ghost use Rattle.commit_graph.specs.Kept.{previous_numbers, IsCommit, IsKept, IsMet};
 
 use crate::error::AddError;
+use pmap::PList;
 use std::alloc::Global;
 use std::marker::Model;
 use std::sync::Arc;
 use sysapi_base::Memory;
 
-/// A commit, and how many commits its ancestry has before it.
+/// A commit, how many commits its ancestry has before it, and one of these to jump to, which is itself where there is none.
 #[derive(Clone, Copy)]
 struct Commit {
     previous: Option<u64>,
     depth: u64,
+    jump: u64,
 }
 
 /// Commits by number from 0 on, each with at most one previous, which is earlier. It is seen as the list of the previous
-/// numbers. A commit makes a new graph and leaves the one before as it was.
+/// numbers. A commit makes a new graph and leaves the one before as it was; both share the commits.
 #[derive(Drop)]
 pub struct Graph {
-    commits: Option<Arc<Vec<Commit>>>,
+    commits: Option<Arc<PList<Commit>>>,
 }
 
 impl Model for Graph {
@@ -59,7 +61,10 @@ impl Graph {
         ensures count { result ≡ length self.now }
         ensures earlier { IsGraph self.now }
     {
-        self.commits().len() as u64
+        match &self.commits {
+            Some(commits) => commits.len(),
+            None => 0,
+        }
     }
 
     /// The graph with one more commit, and that commit's number, which is the old length. The error is UnknownPrevious exactly
@@ -74,11 +79,7 @@ impl Graph {
         if previous.is_some_and(|p| p >= number) {
             return Err(AddError::UnknownPrevious);
         }
-        let depth = self.depth_behind(previous);
-        let commits = longer(alloc, self.commits(), Commit { previous, depth })?;
-        let graph = Graph {
-            commits: Some(commits),
-        };
+        let graph = self.with(alloc, self.commit_behind(previous))?;
         Ok((graph, number))
     }
 
@@ -88,7 +89,7 @@ impl Graph {
         ensures previous { result ≡ previous_of self.now c }
         ensures earlier { IfSome result (λ p. p < c) }
     {
-        self.commits()[c as usize].previous
+        self.commit(c).previous
     }
 
     /// How many commits the ancestry has before this one. It is kept with the commit.
@@ -97,63 +98,132 @@ impl Graph {
         ensures depth { HasDepth self.now c result }
         ensures below { result ≤ c }
     {
-        self.commits()[c as usize].depth
+        self.commit(c).depth
     }
 
-    /// The commit that is reached by going to the previous one so many times, if there is one. It walks there.
+    /// The commit that is reached by going to the previous one so many times, if there is one. It goes there by jumps, and by
+    /// single steps where a jump would overshoot: they grow as the logarithm of the depth. No clause counts them.
     pub fn ancestor(&self, c: u64, k: u64) -> Option<u64>
         requires { c < length self.now }
         ensures { result ≡ ancestor_at self.now c k }
     {
-        let mut commit = c;
-        for _step in 0..k {
-            commit = self.previous(commit)?;
-        }
-        Some(commit)
+        let depth = self.commit(c).depth.checked_sub(k)?;
+        Some(self.at_depth(c, depth))
     }
 
-    /// Whether the first commit is the second or stands in its ancestry. It walks as far as their depths differ.
+    /// Whether the first commit is the second or stands in its ancestry. It goes from the second to the depth of the first, as
+    /// `ancestor` does.
     pub fn is_ancestor(&self, a: u64, c: u64) -> bool
         requires a { a < length self.now }
         requires c { c < length self.now }
-        ensures { IsTrue result ↔ ((k : ℕ) × (ancestor_at self.now c k ≡ Some a)) }
+        ensures steps { IsTrue result ↔ ((k : ℕ) × (ancestor_at self.now c k ≡ Some a)) }
+        ensures told { result ≡ has_ancestor self.now a c }
     {
-        match self.depth(c).checked_sub(self.depth(a)) {
-            Some(steps) => self.ancestor(c, steps) == Some(a),
-            None => false,
+        let depth = self.commit(a).depth;
+        if self.commit(c).depth < depth {
+            return false;
+        }
+        self.at_depth(c, depth) == a
+    }
+
+    // The commit of this depth that is this one or stands in its ancestry.
+    fn at_depth(&self, c: u64, depth: u64) -> u64
+        requires c { c < length self.now }
+        requires depth { (d : ℕ) → HasDepth self.now c d → depth ≤ d }
+        ensures met { IsMet self.now c result }
+        ensures depth { HasDepth self.now result depth }
+    {
+        let mut commit = c;
+        while self.depth(commit) > depth {
+            commit = self.nearer(commit, depth);
+        }
+        commit
+    }
+
+    // One step to the commit of this depth: the jump where it doesn't overshoot, else the previous commit.
+    fn nearer(&self, c: u64, depth: u64) -> u64
+        requires c { c < length self.now }
+        requires depth { (d : ℕ) → HasDepth self.now c d → depth < d }
+        ensures met { IsMet self.now c result }
+        ensures depth { (d : ℕ) → HasDepth self.now result d → depth ≤ d }
+        ensures earlier { result < c }
+    {
+        let commit = self.commit(c);
+        if self.depth(commit.jump) >= depth {
+            commit.jump
+        } else {
+            commit.previous.unwrap()
         }
     }
 
-    // The depth of a commit behind this previous one.
-    fn depth_behind(&self, previous: Option<u64>) -> u64
+    // The commit that comes behind this previous one.
+    fn commit_behind(&self, previous: Option<u64>) -> Commit
         requires { IsEarlier self.now previous }
-        ensures depth { HasDepth (self.now ++ previous ∷ []) (length self.now) result }
-        ensures below { result ≤ length self.now }
+        ensures previous { result.previous ≡ previous }
+        ensures kept { IsCommit (self.now ++ previous ∷ []) (length self.now) result }
     {
-        let _number = self.len();
+        let number = self.len();
         match previous {
-            Some(p) => self.depth(p) + 1,
-            None => 0,
+            Some(p) => Commit {
+                previous,
+                depth: self.depth(p) + 1,
+                jump: self.jump_behind(p),
+            },
+            None => Commit {
+                previous,
+                depth: 0,
+                jump: number,
+            },
         }
     }
 
-    fn commits(&self) -> &[Commit]
-        ensures seen { previous_numbers result.now ≡ self.now }
-        ensures kept { IsKept result.now }
+    // Where a commit behind this one jumps to: two jumps of one length make one of twice that and one more.
+    fn jump_behind(&self, p: u64) -> u64
+        requires { p < length self.now }
+        ensures met { IsMet self.now p result }
+        ensures below { result ≤ p }
+    {
+        let last = self.commit(p);
+        let middle = self.commit(last.jump);
+        let first = self.commit(middle.jump);
+        if last.depth - middle.depth == middle.depth - first.depth {
+            middle.jump
+        } else {
+            p
+        }
+    }
+
+    // The graph with this commit behind its own.
+    fn with(&self, alloc: Global, commit: Commit) -> Result<Graph, Memory>
+        requires previous { IsEarlier self.now commit.previous }
+        requires kept { IsCommit (self.now ++ commit.previous ∷ []) (length self.now) commit }
+        ensures { IfOk result (λ g. g ≡ self.now ++ commit.previous ∷ []) }
+    {
+        let commits = self.list()?.push(alloc, Arc::new(alloc, commit)?)?;
+        Ok(Graph {
+            commits: Some(Arc::new(alloc, commits)?),
+        })
+    }
+
+    // The commits, of one owner more.
+    fn list(&self) -> Result<PList<Commit>, Memory>
+        ensures seen { IfOk result (λ l. previous_numbers l ≡ self.now) }
+        ensures kept { IfOk result (λ l. IsKept l) }
     {
         match &self.commits {
-            Some(commits) => commits.as_slice(),
-            None => &[],
+            Some(commits) => commits.share(),
+            None => Ok(PList::new()),
         }
     }
-}
 
-// These commits and one more.
-fn longer(alloc: Global, commits: &[Commit], commit: Commit) -> Result<Arc<Vec<Commit>>, Memory>
-    ensures { IfOk result (λ v. v.value.items ≡ commits.now ++ commit ∷ []) }
-{
-    let mut longer = Vec::with_capacity(alloc, commits.len().saturating_add(1))?;
-    longer.extend_from_slice(commits)?;
-    longer.push(commit)?;
-    Ok(Arc::new(alloc, longer)?)
+    fn commit(&self, c: u64) -> Commit
+        requires { c < length self.now }
+        ensures graph { IsGraph self.now }
+        ensures kept { IsCommit self.now c result }
+    {
+        match &self.commits {
+            Some(commits) => *commits.get(c).unwrap(),
+            None => unreachable!(),
+        }
+    }
 }

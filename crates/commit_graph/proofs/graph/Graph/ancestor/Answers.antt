@@ -1,11 +1,10 @@
-use Rattle.std.proofs.Common.{◌∙◌, suc, sym, ap, arith}
-use Rattle.std.specs.Prelude.{option_and_then}
-use Rattle.commit_graph.specs.Graphs.{previous_of}
-use Rattle.commit_graph.proofs.Ancestors.{none_farther}
+use Rattle.std.proofs.Common.{◌≡◌, ◌∙◌, ◌-◌, ◌≤◌, Some, sym, ap, arith}
+use Rattle.commit_graph.specs.Graphs.{ancestor_at}
 use Rattle.commit_graph.proofs.graph.Graph.ancestor.Goals as goal
 
-pub returns-in_err-commit : goal.returns-in_err-commit
-returns-in_err-commit c =
-    c.from_residual.ensures
-    ∙ sym (none_farther c.args.self.now c.args.c (suc c.loop-step._step) c.args.k (omega arith)
-    (ap (option_and_then (previous_of c.args.self.now)) c.loop-step.invariant.0 ∙ sym c.previous.ensures.previous ∙ c.in_err-commit.was))
+pub returns : goal.returns
+returns c =
+    let met : (c.in_ok-depth.depth ≤ c.commit.result.depth) × (ancestor_at c.args.self.now c.args.c (c.commit.result.depth - c.in_ok-depth.depth) ≡ Some c.at_depth.result) =
+    c.at_depth.ensures.met _ _ c.commit.ensures.kept.depth c.at_depth.ensures.depth in
+    let steps : c.commit.result.depth - c.in_ok-depth.depth ≡ c.args.k = omega (arith, c.in_ok-depth.ensures) in
+    sym (sym (ap (ancestor_at c.args.self.now c.args.c) steps) ∙ met.1)

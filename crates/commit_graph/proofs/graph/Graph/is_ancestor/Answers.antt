@@ -1,23 +1,30 @@
-use Rattle.std.proofs.Common.{◌≡◌, ◌∙◌, ◌+◌, ◌<◌, ℕ, eqb, eqb-true, eq-eqb, true, Option, Some, None, ap, sym, arith, refl}
-use Rattle.std.specs.Option.{option_eq}
-use Rattle.commit_graph.proofs.Ancestors.{is_there, not_there}
+use Rattle.std.proofs.Common.{◌≡◌, arith, false, nat_eq}
+use Rattle.commit_graph.proofs.Ancestors.{same_depth}
+use Rattle.commit_graph.proofs.Meeting.{told_at, not_told}
+use Rattle.commit_graph.proofs.Reached.{told_by}
 use Rattle.commit_graph.proofs.graph.Graph.is_ancestor.Goals as goal
 
-same : (o : Option ℕ) (a : ℕ) → option_eq eqb o (Some a) ≡ true → o ≡ Some a
-same None a e = cc
-same (Some x) a e = ap Some (eqb-true x a e)
+pub returns-then-commit-depth-clause-steps : goal.returns-then-commit-depth-clause-steps
+returns-then-commit-depth-clause-steps c =
+    not_told c.args.self.now c.args.a c.args.c c.commit-depth.result.depth c.commit.result.depth c.commit-depth.ensures.kept.depth c.commit.ensures.kept.depth c.if-commit-depth.true
 
-equal : (o : Option ℕ) (a : ℕ) → o ≡ Some a → option_eq eqb o (Some a) ≡ true
-equal o a e = ap (λ p. option_eq eqb p (Some a)) e ∙ eq-eqb a a refl
+pub returns-then-commit-depth-clause-told : goal.returns-then-commit-depth-clause-told
+returns-then-commit-depth-clause-told c =
+    told_by c.args.self.now c.args.a c.args.c c.commit.ensures.graph false
+    (not_told c.args.self.now c.args.a c.args.c c.commit-depth.result.depth c.commit.result.depth c.commit-depth.ensures.kept.depth c.commit.ensures.kept.depth c.if-commit-depth.true)
 
-pub returns-in-Some : goal.returns-in-Some
-returns-in-Some c =
-    let steps : c.depth-2.result + c.in-Some.steps ≡ c.depth.result = omega (arith, c.in-Some.ensures.0, c.in-Some.ensures.1) in (
-      λ h. (c.in-Some.steps, sym c.ancestor.ensures ∙ same c.ancestor.result c.args.a (sym c.eq.ensures ∙ h)),
-      λ w. c.eq.ensures ∙ equal c.ancestor.result c.args.a (c.ancestor.ensures ∙ is_there c.args.self.now c.args.a c.args.c c.depth-2.result c.depth.result c.in-Some.steps c.depth-2.ensures.depth c.depth.ensures.depth steps w.0 w.1),
-    )
+pub at_depth-requires-clause-depth : goal.at_depth-requires-clause-depth
+at_depth-requires-clause-depth c d has =
+    let same : d ≡ c.commit.result.depth = same_depth c.args.self.now c.args.c d c.commit.result.depth has c.commit.ensures.kept.depth in
+    omega arith
 
-pub returns-in-None : goal.returns-in-None
-returns-in-None c =
-    let less : c.depth.result < c.depth-2.result = omega (arith, c.in-None.ensures) in
-    (λ h. cc, λ w. absurd (not_there c.args.self.now c.args.a c.args.c c.depth-2.result c.depth.result w.0 c.depth-2.ensures.depth c.depth.ensures.depth less w.1))
+pub returns-clause-steps : goal.returns-clause-steps
+returns-clause-steps c =
+    told_at c.args.self.now c.args.a c.args.c c.at_depth.result c.commit-depth.result.depth c.commit.result.depth c.commit-depth.ensures.kept.depth c.commit.ensures.kept.depth
+    c.at_depth.ensures.met c.at_depth.ensures.depth
+
+pub returns-clause-told : goal.returns-clause-told
+returns-clause-told c =
+    told_by c.args.self.now c.args.a c.args.c c.commit.ensures.graph (nat_eq c.at_depth.result c.args.a)
+    (told_at c.args.self.now c.args.a c.args.c c.at_depth.result c.commit-depth.result.depth c.commit.result.depth c.commit-depth.ensures.kept.depth c.commit.ensures.kept.depth
+    c.at_depth.ensures.met c.at_depth.ensures.depth)
