@@ -46,11 +46,8 @@ fn is_on(view: &State, project: Id, branch: Option<Id>, commit: Id, point: u64) 
 fn is_before(view: &State, branch: &Branch, commit: Id, point: u64) -> bool
     ensures { (past : List Entry) → StandsFor view.now past → result ≡ ancestry_at (tables_at (repository_of view.now) point past).ancestry branch.now.head commit }
 {
-    let Some(head) = branch.head else {
-        return false
-    };
-    match view.commit(head, point) {
-        Some(head) => head.has_ancestor(commit),
+    match branch.head {
+        Some(head) => view.in_ancestry(commit, head, point),
         None => false,
     }
 }

@@ -19,13 +19,15 @@ use Rattle.api_records.specs.declared.refusal.Refusal.TheVariants as no
 use Rattle.entry_codec.specs.declared.reply.Reply.TheVariants.{Made}
 use Rattle.entry_codec.specs.Histories.{Tables, is_at, owned, project_branch, branch_of, head_of, with_head, new_commit, own_in, own_at, ancestry_at, with_identities}
 use Rattle.entry_codec.specs.Refusals.{first, unless_there, multiple, moved, change_rows, rows}
-use Rattle.repo_state.specs.Stands.{commit_shown, versions_shown, own_shown, ancestry_shown, known_shown}
-use Rattle.repo_state.specs.Shown.{shown, from_on, Follows, IsNext, SetsBranch, AddsCommit, IsMade, IsCommitted, versions_drawn}
+use Rattle.repo_state.specs.Stands.{commit_shown, versions_shown, own_shown, ancestry_of, known_shown}
+use Rattle.repo_state.specs.Numbered.{IsNumbered}
+use Rattle.repo_state.specs.Shown.{shown, from_on, KeepsCommits, IsBehind, Follows, IsNext, SetsBranch, AddsCommit, IsMade, IsCommitted, versions_drawn}
 use Rattle.repo_state.specs.declared.commit.Made.{Made as MadeCommit}
 use Rattle.repo_state.specs.declared.state.State.{State}
 use Rattle.repo_state.specs.declared.data.CommitData.{CommitData}
 use Rattle.repo_state.specs.declared.accept.Accepted.{Accepted}
 use Rattle.repo_state.proofs.Entries.{find_put}
+use Rattle.repo_state.proofs.Ancestry.{ancestry_told}
 
 -- ---- values that change at a point
 
@@ -59,7 +61,7 @@ shown_put show k v es q = ap show (find_put k v es q) ∙ elim (k == q) as (λ b
 -- ---- the state that is made
 
 pub committed : (s next_state more last : State) (m : MadeCommit) (id : ℕ) (branch headed : Branch) (reply : Doc)
-    → IsNext s next_state m.next → AddsCommit next_state more m.data m.identities → SetsBranch more last id (Some headed)
+    → IsNext s next_state m.next → AddsCommit next_state more m.data m.graph m.identities → SetsBranch more last id (Some headed)
     → headed ≡ with_head m.data.commit.id branch → reply ≡ commit_doc m.data.commit
     → IsCommitted s m id branch (record { state = last; reply = Made reply })
 committed s next_state more last m id branch headed reply n c b is told =
@@ -73,6 +75,7 @@ committed s next_state more last m id branch headed reply n c b is told =
       tags = b.tags ∙ c.tags ∙ n.tags;
       branches = λ q k. b.branches q k ∙ (λ i. changed (value_at (branches i)) id (front i) (Some (is i)) q k);
       commits = λ q k. ap (λ x. value_at x q k) b.commits ∙ c.commits q k ∙ (λ i. changed (value_at (n.commits i)) m.data.commit.id (n.front i) (Some m.data) q k);
+      graph = b.graph ∙ c.graph;
       known = b.known ∙ c.known ∙ ap (put nat_cmp m.data.commit.project m.identities) n.known;
       reply = ap Made told;
     }
@@ -138,10 +141,11 @@ module _ (s : State) (t p : ℕ) (given : Option ℕ) (previous : List ℕ) (des
   module _ (branch_id : ℕ) (branch : Branch) (older : Option CommitData) (m : MadeCommit) (a : Accepted) where
     follows : branch_of (shown s) p given ≡ Some branch_id → Some branch ≡ project_branch (shown s) p branch_id
         → ((n : ℕ) → s.front ≤ n → value_at s.branches branch_id n ≡ value_at s.branches branch_id s.front)
-        → own_shown older ≡ own_at (shown s).own made_here.previous → ancestry_shown older ≡ ancestry_at (shown s).ancestry made_here.previous
+        → KeepsCommits s → IsNumbered s.graph older
+        → own_shown older ≡ own_at (shown s).own made_here.previous → IsBehind s older made_here.previous
         → IsMade s made_here older cs m → IsCommitted s m branch_id branch a
         → Follows s (record { moment = t; command = CreateCommit p given previous description cs }) a
-    follows is there stays own ancestry made k =
+    follows is there stays keeps numbered own ancestry made k =
         let vs = versions_drawn s made_here cs in
         let id_is : m.data.commit.id ≡ made_here.id = ap (λ (c : Commit). c.id) made.commit in
         let now = s.front + 1 in
@@ -167,10 +171,9 @@ module _ (s : State) (t p : ℕ) (given : Option ℕ) (previous : List ℕ) (des
               (λ late here. ap (λ f. f x) made.own_values ∙ ap (λ f. own_in vs x (f x)) own)
               ∙ ap (λ c. from_on now n (λ o. cond (c == q) (own_in vs x (own_at (shown s).own made_here.previous x)) o) (own_shown (value_at s.commits q n) x)) id_is
               ∙ at_each (nat_le now n) (λ y. cond (made_here.id == q) (own_in vs y (own_at (shown s).own made_here.previous y)) (own_shown (value_at s.commits q n) y)) (own_shown (value_at s.commits q n)) x) i;
-          ancestry = λ q n. ap ancestry_shown (k.commits q n)
-              ∙ told_changed ancestry_shown (value_at s.commits) m.data.commit.id now (Some m.data) q n (λ o. added made_here.id (ancestry_at (shown s).ancestry made_here.previous))
-              (λ late here. made.ancestry ∙ ap (added made_here.id) ancestry)
-              ∙ ap (λ c. from_on now n (λ o. cond (c == q) (added made_here.id (ancestry_at (shown s).ancestry made_here.previous)) o) (ancestry_shown (value_at s.commits q n))) id_is;
+          ancestry = λ fresh q n i x. (ancestry_told s keeps older numbered m.data made.number (λ j. ap (λ c. value_at s.commits c j) id_is ∙ fresh j)
+              (ancestry_at (shown s).ancestry made_here.previous) ancestry q n x a.state.graph a.state.commits (k.graph ∙ made.graph) k.commits
+              ∙ ap (λ c. from_on now n (λ o. cond (c == q) (added c (ancestry_at (shown s).ancestry made_here.previous)) o) (ancestry_of s n q) x) id_is) i;
           known_ids = λ q. ap (λ es. known_shown (find nat_cmp q es)) k.known ∙ shown_put known_shown m.data.commit.project m.identities s.known q
               ∙ ap (λ c. cond (c == q) (has m.identities) (known_shown (find nat_cmp q s.known))) (ap (λ (c : Commit). c.project) made.commit)
               ∙ at_same (λ x. with_identities ((shown s).known x) vs) p q (has m.identities) (known_shown (find nat_cmp q s.known)) made.identities;
@@ -180,10 +183,11 @@ module _ (s : State) (t p : ℕ) (given : Option ℕ) (previous : List ℕ) (des
     pub commit_follows : (id : ℕ) (copy : Option (List ℕ)) → id ≡ made_id s.repository s.next → copy ≡ description
         → branch_of (shown s) p given ≡ Some branch_id → Some branch ≡ project_branch (shown s) p branch_id
         → ((n : ℕ) → s.front ≤ n → value_at s.branches branch_id n ≡ value_at s.branches branch_id s.front)
-        → own_shown older ≡ own_at (shown s).own branch.head → ancestry_shown older ≡ ancestry_at (shown s).ancestry branch.head
+        → KeepsCommits s → IsNumbered s.graph older
+        → own_shown older ≡ own_at (shown s).own branch.head → IsBehind s older branch.head
         → IsMade s (record { id = id; project = p; description = copy; previous = branch.head; created = t }) older cs m → IsCommitted s m branch_id branch a
         → Follows s (record { moment = t; command = CreateCommit p given previous description cs }) a
-    commit_follows id copy at copied is there stays own ancestry made k =
+    commit_follows id copy at copied is there stays keeps numbered own ancestry made k =
         let head = head_met (shown s) p given branch_id branch is there in
-        follows is there stays (own ∙ ap (own_at (shown s).own) head) (ancestry ∙ ap (ancestry_at (shown s).ancestry) head)
+        follows is there stays keeps numbered (own ∙ ap (own_at (shown s).own) head) (subst (IsBehind s older) head ancestry)
         (subst (λ c. IsMade s c older cs m) (commit_is_new s t p given description copy id branch_id branch at copied is there) made) k

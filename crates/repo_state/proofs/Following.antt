@@ -17,7 +17,7 @@ use Rattle.entry_codec.specs.declared.reply.Reply.{Reply}
 use Rattle.entry_codec.specs.declared.reply.Reply.TheVariants.{Made, Found}
 use Rattle.entry_codec.specs.Histories.{next_behind, project_is, branch_is, tag_is, project_by, branch_by, tag_by, commit_by, versions_by, own_by, ancestry_by, known_by, new_project, new_default_branch, new_branch, new_tag, updated}
 use Rattle.entry_codec.specs.Replies.{command_reply, told}
-use Rattle.repo_state.specs.Stands.{commit_shown, versions_shown, own_shown, ancestry_shown, known_shown}
+use Rattle.repo_state.specs.Stands.{commit_shown, versions_shown, own_shown, ancestry_in, ancestry_of, known_shown}
 use Rattle.repo_state.specs.Shown.{shown, events_at, from_on, Follows, IsNext, SetsProject, SetsBranch, SetsTag}
 use Rattle.repo_state.specs.declared.state.State.{State}
 
@@ -52,6 +52,7 @@ pub project_set : (s mid new : State) (e : Entry) (serial id : ℕ) (value : Opt
     → Follows s e (record { state = new; reply = reply })
 project_set s mid new e serial id value reply next sets drawn events replied =
     let n = s.front + 1 in
+    let old_graph = sets.graph ∙ next.graph in
     let old_commits = sets.commits ∙ next.commits in record {
       same = sets.numbers.same ∙ next.same;
       front = sets.numbers.front ∙ next.front;
@@ -62,7 +63,7 @@ project_set s mid new e serial id value reply next sets drawn events replied =
       commits = λ q m. ap (λ old. commit_shown (value_at old q m)) old_commits ∙ from_same n m (commit_shown (value_at s.commits q m)) ∙ ap (λ es. from_on n m (commit_by es q) (commit_shown (value_at s.commits q m))) events;
       versions = λ q m. ap (λ old. versions_shown (value_at old q m)) old_commits ∙ from_same n m (versions_shown (value_at s.commits q m)) ∙ ap (λ es. from_on n m (versions_by es q) (versions_shown (value_at s.commits q m))) events;
       own_values = λ q m. ap (λ old. own_shown (value_at old q m)) old_commits ∙ from_same n m (own_shown (value_at s.commits q m)) ∙ ap (λ es. from_on n m (λ older x. own_by (shown s).own es q x (older x)) (own_shown (value_at s.commits q m))) events;
-      ancestry = λ q m. ap (λ old. ancestry_shown (value_at old q m)) old_commits ∙ from_same n m (ancestry_shown (value_at s.commits q m)) ∙ ap (λ es. from_on n m (ancestry_by (shown s).ancestry es q) (ancestry_shown (value_at s.commits q m))) events;
+      ancestry = λ fresh q m. (λ i. ancestry_in (old_graph i) (old_commits i) m q) ∙ from_same n m (ancestry_of s m q) ∙ ap (λ es. from_on n m (ancestry_by (shown s).ancestry es q) (ancestry_of s m q)) events;
       known_ids = λ q. ap (λ old. known_shown (find nat_cmp q old)) (sets.known ∙ next.known) ∙ ap (λ es. known_by es q (known_shown (find nat_cmp q s.known))) events;
       reply = replied;
     }
@@ -75,6 +76,7 @@ pub branch_set : (s mid new : State) (e : Entry) (serial id : ℕ) (value : Opti
     → Follows s e (record { state = new; reply = reply })
 branch_set s mid new e serial id value reply next sets drawn events replied =
     let n = s.front + 1 in
+    let old_graph = sets.graph ∙ next.graph in
     let old_commits = sets.commits ∙ next.commits in record {
       same = sets.numbers.same ∙ next.same;
       front = sets.numbers.front ∙ next.front;
@@ -85,7 +87,7 @@ branch_set s mid new e serial id value reply next sets drawn events replied =
       commits = λ q m. ap (λ old. commit_shown (value_at old q m)) old_commits ∙ from_same n m (commit_shown (value_at s.commits q m)) ∙ ap (λ es. from_on n m (commit_by es q) (commit_shown (value_at s.commits q m))) events;
       versions = λ q m. ap (λ old. versions_shown (value_at old q m)) old_commits ∙ from_same n m (versions_shown (value_at s.commits q m)) ∙ ap (λ es. from_on n m (versions_by es q) (versions_shown (value_at s.commits q m))) events;
       own_values = λ q m. ap (λ old. own_shown (value_at old q m)) old_commits ∙ from_same n m (own_shown (value_at s.commits q m)) ∙ ap (λ es. from_on n m (λ older x. own_by (shown s).own es q x (older x)) (own_shown (value_at s.commits q m))) events;
-      ancestry = λ q m. ap (λ old. ancestry_shown (value_at old q m)) old_commits ∙ from_same n m (ancestry_shown (value_at s.commits q m)) ∙ ap (λ es. from_on n m (ancestry_by (shown s).ancestry es q) (ancestry_shown (value_at s.commits q m))) events;
+      ancestry = λ fresh q m. (λ i. ancestry_in (old_graph i) (old_commits i) m q) ∙ from_same n m (ancestry_of s m q) ∙ ap (λ es. from_on n m (ancestry_by (shown s).ancestry es q) (ancestry_of s m q)) events;
       known_ids = λ q. ap (λ old. known_shown (find nat_cmp q old)) (sets.known ∙ next.known) ∙ ap (λ es. known_by es q (known_shown (find nat_cmp q s.known))) events;
       reply = replied;
     }
@@ -98,6 +100,7 @@ pub tag_set : (s mid new : State) (e : Entry) (serial id : ℕ) (value : Option 
     → Follows s e (record { state = new; reply = reply })
 tag_set s mid new e serial id value reply next sets drawn events replied =
     let n = s.front + 1 in
+    let old_graph = sets.graph ∙ next.graph in
     let old_commits = sets.commits ∙ next.commits in record {
       same = sets.numbers.same ∙ next.same;
       front = sets.numbers.front ∙ next.front;
@@ -108,7 +111,7 @@ tag_set s mid new e serial id value reply next sets drawn events replied =
       commits = λ q m. ap (λ old. commit_shown (value_at old q m)) old_commits ∙ from_same n m (commit_shown (value_at s.commits q m)) ∙ ap (λ es. from_on n m (commit_by es q) (commit_shown (value_at s.commits q m))) events;
       versions = λ q m. ap (λ old. versions_shown (value_at old q m)) old_commits ∙ from_same n m (versions_shown (value_at s.commits q m)) ∙ ap (λ es. from_on n m (versions_by es q) (versions_shown (value_at s.commits q m))) events;
       own_values = λ q m. ap (λ old. own_shown (value_at old q m)) old_commits ∙ from_same n m (own_shown (value_at s.commits q m)) ∙ ap (λ es. from_on n m (λ older x. own_by (shown s).own es q x (older x)) (own_shown (value_at s.commits q m))) events;
-      ancestry = λ q m. ap (λ old. ancestry_shown (value_at old q m)) old_commits ∙ from_same n m (ancestry_shown (value_at s.commits q m)) ∙ ap (λ es. from_on n m (ancestry_by (shown s).ancestry es q) (ancestry_shown (value_at s.commits q m))) events;
+      ancestry = λ fresh q m. (λ i. ancestry_in (old_graph i) (old_commits i) m q) ∙ from_same n m (ancestry_of s m q) ∙ ap (λ es. from_on n m (ancestry_by (shown s).ancestry es q) (ancestry_of s m q)) events;
       known_ids = λ q. ap (λ old. known_shown (find nat_cmp q old)) (sets.known ∙ next.known) ∙ ap (λ es. known_by es q (known_shown (find nat_cmp q s.known))) events;
       reply = replied;
     }
@@ -160,6 +163,7 @@ project_made s mid one new t name description id branch_id project branch d next
     let front_is = sets_project.numbers.front ∙ next.front in
     let old_branches = sets_project.branches ∙ next.branches in
     let old_commits = sets.commits ∙ sets_project.commits ∙ next.commits in
+    let old_graph = sets.graph ∙ sets_project.graph ∙ next.graph in
     let ids = made_id r s.next in
     let branch_ids = made_id r (s.next + 1) in record {
       same = sets.numbers.same ∙ sets_project.numbers.same ∙ next.same;
@@ -173,7 +177,7 @@ project_made s mid one new t name description id branch_id project branch d next
       commits = λ q m. ap (λ old. commit_shown (value_at old q m)) old_commits ∙ from_same n m (commit_shown (value_at s.commits q m));
       versions = λ q m. ap (λ old. versions_shown (value_at old q m)) old_commits ∙ from_same n m (versions_shown (value_at s.commits q m));
       own_values = λ q m. ap (λ old. own_shown (value_at old q m)) old_commits ∙ from_same n m (own_shown (value_at s.commits q m));
-      ancestry = λ q m. ap (λ old. ancestry_shown (value_at old q m)) old_commits ∙ from_same n m (ancestry_shown (value_at s.commits q m));
+      ancestry = λ fresh q m. (λ i. ancestry_in (old_graph i) (old_commits i) m q) ∙ from_same n m (ancestry_of s m q);
       known_ids = λ q. ap (λ old. known_shown (find nat_cmp q old)) (sets.known ∙ sets_project.known ∙ next.known);
       reply = ap Made (replied ∙ ap project_doc is);
     }

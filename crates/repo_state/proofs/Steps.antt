@@ -8,6 +8,7 @@ use Rattle.entry_codec.specs.Replies.{command_reply}
 use Rattle.repo_state.specs.Stands.{StandsFor, Accepts}
 use Rattle.repo_state.specs.Shown.{shown, from_on, Follows, Judges}
 use Rattle.repo_state.specs.declared.state.State.{State}
+use Rattle.repo_state.proofs.Fresh.{fresh}
 use Rattle.repo_state.specs.declared.accept.Accepted.{Accepted}
 use Rattle.repo_state.specs.declared.accept.AcceptError.{AcceptError}
 use Rattle.repo_state.specs.declared.accept.AcceptError.TheVariants.{Refused, Memory}
@@ -91,7 +92,7 @@ stands_behind s past e a f st =
       commits = λ q m. upon s past e a.state.repository (λ t. t.commit q) (λ t older. commit_by (events t) q older) m _ _ st f.same refl (f.commits q m) (st.commits q m);
       versions = λ q m. upon s past e a.state.repository (λ t. t.versions q) (λ t older. versions_by (events t) q older) m _ _ st f.same refl (f.versions q m) (st.versions q m);
       own_values = λ q m. upon s past e a.state.repository (λ t. t.own q) (λ t older x. own_by t.own (events t) q x (older x)) m _ _ st f.same refl (f.own_values q m) (st.own_values q m);
-      ancestry = λ q m. upon s past e a.state.repository (λ t. t.ancestry q) (λ t older. ancestry_by t.ancestry (events t) q older) m _ _ st f.same refl (f.ancestry q m) (st.ancestry q m);
+      ancestry = λ q m. upon s past e a.state.repository (λ t. t.ancestry q) (λ t older. ancestry_by t.ancestry (events t) q older) m _ _ st f.same refl (f.ancestry (fresh s past st) q m) (st.ancestry q m);
       known_ids = λ q. f.known_ids q ∙ (λ i. known_by (events (same i)) q (st.known_ids q i)) ∙ ap (λ n. (tables n (e ∷ past)).known q) (sym f.same);
     }
 

@@ -1,4 +1,5 @@
 pub mod Payloads
+pub mod Numbered
 pub mod Stands
 pub mod Lists
 pub mod Shown

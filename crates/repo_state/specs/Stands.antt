@@ -5,7 +5,8 @@ use Rattle.std.specs.FinMap.{find}
 use Rattle.std.specs.declared.sync.Arc.{Arc}
 use Rattle.std.specs.declared.alloc.Global.{Global}
 use Rattle.doc_value.specs.declared.doc.Doc.{Doc}
-use Rattle.timeline.specs.Values.{value_at}
+use Rattle.timeline.specs.Values.{Changes, value_at}
+use Rattle.commit_graph.specs.Graphs.{has_ancestor}
 use Rattle.api_records.specs.Sets.{has}
 use Rattle.api_records.specs.declared.record.Commit.{Commit}
 use Rattle.api_records.specs.declared.record.Version.{Version}
@@ -38,9 +39,6 @@ versions_of d = map (λ (v : Arc Version Global). v.value) d.versions.items
 abbrev pub own_of : CommitData → ℕ → Option Doc
 own_of d x = option_and_then (λ v. v.payload) (find nat_cmp x d.own)
 
-abbrev pub ancestry_of : CommitData → ℕ → Bool
-ancestry_of d = has d.ancestry
-
 abbrev pub commit_shown : Option CommitData → Option Commit
 commit_shown None = None
 commit_shown (Some d) = Some (commit_of d)
@@ -53,13 +51,24 @@ abbrev pub own_shown : Option CommitData → ℕ → Option Doc
 own_shown None x = None
 own_shown (Some d) x = own_of d x
 
-abbrev pub ancestry_shown : Option CommitData → ℕ → Bool
-ancestry_shown None = λ a. false
-ancestry_shown (Some d) = ancestry_of d
-
 abbrev pub known_shown : Option (List ℕ) → ℕ → Bool
 known_shown None = λ x. false
 known_shown (Some ids) = has ids
+
+-- ---- the ancestry of a commit
+
+-- whether the second commit is the first or stands before it in the graph. Where one is absent, it is not
+abbrev pub is_behind : List (Option ℕ) → Option CommitData → Option CommitData → Bool
+is_behind graph None other = false
+is_behind graph (Some d) None = false
+is_behind graph (Some d) (Some e) = has_ancestor graph e.number d.number
+
+-- which ids are of commits that are there at the point m and stand in the ancestry of the one with the id c
+abbrev pub ancestry_in : List (Option ℕ) → Changes CommitData → ℕ → ℕ → ℕ → Bool
+ancestry_in graph commits m c a = is_behind graph (value_at commits c m) (value_at commits a m)
+
+abbrev pub ancestry_of : State → ℕ → ℕ → ℕ → Bool
+ancestry_of s m c = ancestry_in s.graph s.commits m c
 
 -- ---- what a state stands for
 
@@ -74,7 +83,7 @@ pub record StandsFor (s : State) (past : List Entry) : Type 0 where
   pub commits : (c m : ℕ) → commit_shown (value_at s.commits c m) ≡ (tables_at s.repository m past).commit c
   pub versions : (c m : ℕ) → versions_shown (value_at s.commits c m) ≡ (tables_at s.repository m past).versions c
   pub own_values : (c m : ℕ) → own_shown (value_at s.commits c m) ≡ (tables_at s.repository m past).own c
-  pub ancestry : (c m : ℕ) → ancestry_shown (value_at s.commits c m) ≡ (tables_at s.repository m past).ancestry c
+  pub ancestry : (c m : ℕ) → ancestry_of s m c ≡ (tables_at s.repository m past).ancestry c
   pub known_ids : (p : ℕ) → known_shown (find nat_cmp p s.known) ≡ (tables s.repository past).known p
 
 -- the entry has no refusal; the new state stands for the history and the entry, and the reply is the one that is defined

@@ -1,13 +1,13 @@
 //! Commits are made.
 
-ghost use Rattle.std.specs.Prelude.{◌≡◌, ◌<◌, ◌^◌, length, Some, IfOk, option_map};
+ghost use Rattle.std.specs.Prelude.{◌≡◌, ◌<◌, ◌≤◌, ◌^◌, ◌++◌, ◌∷◌, [], length, Some, IfOk, option_map};
 ghost use Rattle.std.specs.List.{All};
-ghost use Rattle.api_records.specs.Sets.{has, added};
 ghost use Rattle.api_records.specs.Storable.{IsStored};
-ghost use Rattle.entry_codec.specs.Histories.{with_head, own_at, ancestry_at};
+ghost use Rattle.entry_codec.specs.Histories.{with_head, own_at};
 ghost use Rattle.entry_codec.specs.Replies.{IsSoundReply};
-ghost use Rattle.repo_state.specs.Stands.{own_shown, ancestry_shown};
-ghost use Rattle.repo_state.specs.Shown.{shown, Judges, IsMade, IsCommitted};
+ghost use Rattle.repo_state.specs.Numbered.{IsNumbered};
+ghost use Rattle.repo_state.specs.Stands.{own_shown};
+ghost use Rattle.repo_state.specs.Shown.{shown, Judges, KeepsCommits, IsBehind, number_of, IsMade, IsCommitted};
 
 use crate::accept::{AcceptError, Accepted};
 use crate::check::commit_refusal;
@@ -18,14 +18,16 @@ use crate::own::own_values;
 use crate::project::copy_optional;
 use crate::state::State;
 use api_records::{Branch, Change, Changes, Command, Commit, Refusal};
+use commit_graph::{AddError, Graph};
 use entry_codec::Reply;
 use std::alloc::Global;
 use sysapi_base::{Id, Ids, Memory, Moment, Text};
 
-/// What a commit leaves: itself, the identities known in its project, and the next serial.
+/// What a commit leaves: itself, the graph that it stands in, the identities known in its project, and the next serial.
 #[derive(Drop)]
 pub(crate) struct Made {
     pub(crate) data: CommitData,
+    pub(crate) graph: Graph,
     pub(crate) identities: IdSet,
     pub(crate) next: u64,
 }
@@ -43,23 +45,39 @@ fn with_head(alloc: Global, branch: &Branch, head: Id) -> Result<Branch, Memory>
     })
 }
 
-/// The ancestry of a commit, whose previous one is `older`.
-fn ancestry(alloc: Global, older: Option<&CommitData>, id: Id) -> Result<IdSet, Memory>
-    ensures { IfOk result (λ s. has s ≡ added id (ancestry_shown (option_map (λ d. d.now) older.entry))) }
+/// The graph with one more commit behind `older`, and that commit's number.
+fn grown(alloc: Global, graph: &Graph, older: Option<&CommitData>) -> Result<(Graph, u64), Memory>
+    requires { IsNumbered graph.now (option_map (λ d. d.now) older) }
+    ensures graph { IfOk result (λ g. g.0 ≡ graph.now ++ number_of (option_map (λ d. d.now) older.entry) ∷ []) }
+    ensures number { IfOk result (λ g. g.1 ≡ length graph.now) }
 {
-    let mut ancestry = match older {
-        Some(older) => older.ancestry.share()?,
-        None => IdSet::new(),
+    let previous = match older {
+        Some(older) => Some(older.number),
+        None => None,
     };
-    ancestry.add(alloc, id)?;
-    Ok(ancestry)
+    match graph.add(alloc, previous) {
+        Ok(grown) => Ok(grown),
+        Err(AddError::UnknownPrevious) => unreachable!(),
+        Err(AddError::Memory) => Err(Memory),
+    }
 }
 
 impl State {
+    /// How many commits there are. It tells what is kept of them.
+    fn commit_count(&self) -> u64
+        ensures count { result ≡ length self.now.graph }
+        ensures keeps { KeepsCommits self.now }
+    {
+        // From the last point on each commit stays.
+        let _last = self.commits.last();
+        self.graph.len()
+    }
+
     /// The commit at a head, if there is one.
     fn at_head(&self, head: Option<Id>) -> Option<&CommitData>
         ensures own_values { own_shown (option_map (λ d. d.now) result) ≡ own_at (shown self.now).own head }
-        ensures ancestry { ancestry_shown (option_map (λ d. d.now) result) ≡ ancestry_at (shown self.now).ancestry head }
+        ensures ancestry { IsBehind self.now (option_map (λ d. d.now) result) head }
+        ensures numbered { IsNumbered self.now.graph (option_map (λ d. d.now) result) }
     {
         match head {
             Some(id) => self.commits.at(id, self.front),
@@ -92,6 +110,7 @@ impl State {
         let Some(found) = self.project_branch(project, branch_id) else {
             return Err(AcceptError::Refused(Refusal::UnknownBranch));
         };
+        let _count = self.commit_count();
         let older = self.at_head(found.head);
         if let Some(refusal) = commit_refusal(
             alloc,
@@ -126,6 +145,7 @@ impl State {
     ) -> Result<Made, Memory>
         requires next { self.now.next < 2 ^ 62 }
         requires stored { All (λ c. IsStored c.payload) changes.now }
+        requires numbered { IsNumbered self.now.graph (option_map (λ d. d.now) older) }
         ensures { IfOk result (λ m. IsMade self.now commit (option_map (λ d. d.now) older.entry) changes.now m) }
     {
         let known = self.known.find(&commit.project);
@@ -133,14 +153,15 @@ impl State {
         let drawn = versions(alloc, self.repository, &named, self.next + 1, changes)?;
         let identities = with_identities(alloc, known, drawn.made.as_slice())?;
         let own = own_values(alloc, older, drawn.made.as_slice())?;
-        let ancestry = ancestry(alloc, older, commit.id)?;
+        let (graph, number) = grown(alloc, &self.graph, older)?;
         Ok(Made {
             data: CommitData {
                 commit,
                 versions: drawn.made,
                 own,
-                ancestry,
+                number,
             },
+            graph,
             identities,
             next: drawn.next,
         })
@@ -154,19 +175,22 @@ impl State {
         branch_id: Id,
         branch: &Branch,
     ) -> Result<Accepted, Memory>
-        requires { self.now.front < 2 ^ 60 }
+        requires front { self.now.front < 2 ^ 60 }
+        requires number { made.data.number < length made.graph }
+        requires longer { length self.now.graph ≤ length made.graph }
         ensures committed { IfOk result (λ a. IsCommitted self.now made branch_id branch.now a) }
         ensures sound { IfOk result (λ a. IsSoundReply a.reply) }
     {
         let Made {
             data,
+            graph,
             identities,
             next,
         } = made;
         let reply = data.record().to_doc(alloc)?;
         let branch = with_head(alloc, branch, data.record().id)?;
         let mut state = self.at_next(next)?;
-        state.add_commit(alloc, data, identities)?;
+        state.add_commit(alloc, data, graph, identities)?;
         state.set_branch(alloc, branch_id, Some(branch))?;
         Ok(Accepted {
             state,

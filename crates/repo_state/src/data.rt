@@ -1,20 +1,19 @@
 ghost use Rattle.std.proofs.Props.{props};
 ghost use Rattle.repo_state.specs.Payloads.{AreStored, AllStored, IsStored-prop, HasRange-prop, IsObject-prop};
 
-use crate::id_set::IdSet;
 use api_records::{Commit, Version};
 use doc_value::Doc;
 use pmap::PMap;
 use std::sync::Arc;
 use sysapi_base::Id;
 
-/// A commit, the data versions that it stored, the version of each datum at it, and its ancestry.
+/// A commit, the data versions that it stored, the version of each datum at it, and its number in the graph of commits.
 #[derive(Drop)]
 pub struct CommitData {
     pub(crate) commit: Commit,
     pub(crate) versions: Vec<Arc<Version>>,
     pub(crate) own: PMap<Id, Version>,
-    pub(crate) ancestry: IdSet,
+    pub(crate) number: u64,
     ghost stored: { AllStored versions.items } by { Prim.hlevel (IsStored-prop, IsObject-prop, HasRange-prop, props) },
     ghost payloads: { AreStored own } by { Prim.hlevel (IsStored-prop, IsObject-prop, HasRange-prop, props) },
 }
@@ -25,7 +24,7 @@ impl CommitData {
     ghost use Rattle.doc_value.specs.Document.{IsSound};
     ghost use Rattle.doc_value.specs.Seen.{document};
     ghost use Rattle.api_records.specs.Storable.{IsShallow};
-    ghost use Rattle.repo_state.specs.Stands.{commit_of, versions_of, own_of, ancestry_of};
+    ghost use Rattle.repo_state.specs.Stands.{commit_of, versions_of, own_of};
 
     /// The commit's record.
     pub fn record(&self) -> &Commit
@@ -51,12 +50,5 @@ impl CommitData {
             Some(version) => version.payload.as_ref(),
             None => None,
         }
-    }
-
-    /// Whether a commit is this one or stands before it in its ancestry.
-    pub fn has_ancestor(&self, id: Id) -> bool
-        ensures { result ≡ ancestry_of self.now id }
-    {
-        self.ancestry.contains(id)
     }
 }

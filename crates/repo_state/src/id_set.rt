@@ -47,10 +47,13 @@ impl IdSet {
         self.ids.find(&id).is_some()
     }
 
-    /// Adds an id.
+    /// Adds an id. Where it is in the set, nothing changes.
     pub(crate) fn add(&mut self, alloc: Global, id: Id) -> Result<(), Memory>
         ensures { OnOk result (has self.new ≡ added id (has self.old)) }
     {
+        if self.contains(id) {
+            return Ok(());
+        }
         let ids = self.ids.insert(alloc, id, Arc::new(alloc, ())?)?;
         self.ids = ids;
         Ok(())

@@ -3,7 +3,7 @@
 ghost use Rattle.std.specs.Prelude.{◌≡◌, List, option_map};
 ghost use Rattle.entry_codec.specs.Histories.{tables_at};
 ghost use Rattle.entry_codec.specs.declared.entry.Entry.{Entry};
-ghost use Rattle.repo_state.specs.Stands.{StandsFor, repository_of, commit_shown, versions_shown, own_shown, ancestry_shown};
+ghost use Rattle.repo_state.specs.Stands.{StandsFor, repository_of, commit_shown, versions_shown, own_shown};
 
 use crate::data::CommitData;
 use crate::state::State;
@@ -37,8 +37,17 @@ impl State {
         ensures record_shown { (past : List Entry) → StandsFor self.now past → commit_shown (option_map (λ d. d.now) result) ≡ (tables_at (repository_of self.now) point past).commit id }
         ensures versions { (past : List Entry) → StandsFor self.now past → versions_shown (option_map (λ d. d.now) result) ≡ (tables_at (repository_of self.now) point past).versions id }
         ensures own_values { (past : List Entry) → StandsFor self.now past → own_shown (option_map (λ d. d.now) result) ≡ (tables_at (repository_of self.now) point past).own id }
-        ensures ancestry { (past : List Entry) → StandsFor self.now past → ancestry_shown (option_map (λ d. d.now) result) ≡ (tables_at (repository_of self.now) point past).ancestry id }
     {
         self.commits.at(id, point)
+    }
+
+    /// Whether a commit is the other one or stands before it in its ancestry, as both are there at the point.
+    pub fn in_ancestry(&self, id: Id, other: Id, point: u64) -> bool
+        ensures { (past : List Entry) → StandsFor self.now past → result ≡ (tables_at (repository_of self.now) point past).ancestry other id }
+    {
+        match (self.commits.at(other, point), self.commits.at(id, point)) {
+            (Some(later), Some(earlier)) => { self.graph.is_ancestor(earlier.number, later.number) }
+            _ => false,
+        }
     }
 }

@@ -1,9 +1,12 @@
-ghost use Rattle.std.specs.Prelude.{◌≡◌, ◌<◌, ◌≤◌, ◌^◌, ℕ, IfOk};
+ghost use Rattle.std.specs.Prelude.{◌≡◌, ◌<◌, ◌≤◌, ◌^◌, ℕ, length, IfOk};
+ghost use Rattle.std.proofs.Props.{props};
 ghost use Rattle.timeline.specs.Values.{value_at, changed, last_point};
+ghost use Rattle.repo_state.specs.Numbered.{AreNumbered, IsNumbered-prop};
 
 use crate::data::CommitData;
 use crate::id_set::IdSet;
 use api_records::{Branch, Project, Tag};
+use commit_graph::Graph;
 use pmap::PMap;
 use std::alloc::Global;
 use std::sync::Arc;
@@ -21,16 +24,18 @@ pub struct State {
     pub(crate) branches: Timeline<Branch>,
     pub(crate) tags: Timeline<Tag>,
     pub(crate) commits: Timeline<CommitData>,
+    pub(crate) graph: Graph,
     pub(crate) known: PMap<Id, IdSet>,
     ghost in_range: { repository < 2 ^ 48 },
     ghost projects_before: { last_point projects ≤ front },
     ghost branches_before: { last_point branches ≤ front },
     ghost tags_before: { last_point tags ≤ front },
     ghost commits_before: { last_point commits ≤ front },
+    ghost numbered: { AreNumbered graph commits } by { Prim.hlevel (IsNumbered-prop, props) },
 }
 
 impl State {
-    ghost use Rattle.std.specs.Prelude.{◌≡◌, [], IfOk, OnOk};
+    ghost use Rattle.std.specs.Prelude.{◌≡◌, ◌<◌, ◌≤◌, [], length, IfOk, OnOk};
     ghost use Rattle.repo_state.specs.Stands.{StandsFor, repository_of, front_of};
     ghost use Rattle.repo_state.specs.Shown.{IsNext, SetsProject, SetsBranch, SetsTag, AddsCommit};
 
@@ -48,6 +53,7 @@ impl State {
             branches: Timeline::new(),
             tags: Timeline::new(),
             commits: Timeline::new(),
+            graph: Graph::new(),
             known: PMap::new(),
         }
     }
@@ -79,6 +85,7 @@ impl State {
             branches: self.branches.share()?,
             tags: self.tags.share()?,
             commits: self.commits.share()?,
+            graph: self.graph.share()?,
             known: self.known.share()?,
         })
     }
@@ -96,6 +103,7 @@ impl State {
             branches: self.branches.share()?,
             tags: self.tags.share()?,
             commits: self.commits.share()?,
+            graph: self.graph.share()?,
             known: self.known.share()?,
         })
     }
@@ -134,20 +142,25 @@ impl State {
         Ok(())
     }
 
-    /// From the front on the commit is there, and these identities are known in its project.
+    /// From the front on the commit is there, with its number in this graph, and these identities are known in its project.
     pub(crate) fn add_commit(
         &mut self,
         alloc: Global,
         made: CommitData,
+        graph: Graph,
         identities: IdSet,
     ) -> Result<(), Memory>
-        ensures { OnOk result (AddsCommit self.old self.new made identities) }
+        requires number { made.number < length graph }
+        requires longer { length self.old.graph ≤ length graph }
+        ensures { OnOk result (AddsCommit self.old self.new made graph identities) }
     {
         let id = made.record().id;
         let project = made.record().project;
-        self.commits = changed(alloc, &self.commits, id, self.front, Some(made))?;
         let identities = Arc::new(alloc, identities)?;
         let known = self.known.insert(alloc, project, identities)?;
+        let commits = changed(alloc, &self.commits, id, self.front, Some(made))?;
+        self.graph = graph;
+        self.commits = commits;
         self.known = known;
         Ok(())
     }

@@ -1,9 +1,10 @@
 -- What a repository stores behind a command.
-use Rattle.std.proofs.Common.{◌≡◌, ℕ, ◌+◌, List, [], ◌∷◌, ◌++◌, length, reverse, Option, Some, None, ap, sym, subst, ◌∙◌, refl, arith}
+use Rattle.std.proofs.Common.{rules, ◌≡◌, ℕ, ◌+◌, List, [], ◌∷◌, ◌++◌, length, reverse, Option, Some, None, ap, sym, subst, ◌∙◌, refl, arith}
 use Rattle.std.proofs.lemmas.List.{reverse-append, length_push, map_push, append-nil}
 use Rattle.std.proofs.lemmas.List.Elements.{All-push}
 use Rattle.std.proofs.lemmas.Option.{same_Some}
-use Rattle.std.specs.Prelude.{IsSome, ◌≤◌, ◌^◌}
+use Rattle.std.specs.Prelude.{IsSome, ◌≤◌, ◌^◌, Result, Ok, Err}
+use Rattle.std.specs.Result.{IsErrAnd}
 use Rattle.std.proofs.Common.{inl, inr}
 use Rattle.sysapi_base.specs.Outside.{Grows}
 use Rattle.api_records.specs.Storable.{IsStorable}
@@ -15,14 +16,17 @@ use Rattle.journal_disk.proofs.Moments.{weaker, run_on}
 use Rattle.entry_bytes.specs.Sound.{IsProperEntry}
 use Rattle.journal_disk.specs.Keeper.{SameFigures}
 use Rattle.shared_repo.specs.declared.commit.Ready.{Ready}
-use Rattle.shared_repo.specs.Commands.{IsReady, IsWritten, IsKeptOrNew}
+use Rattle.shared_repo.specs.declared.fault.Written.{Written}
+use Rattle.shared_repo.specs.declared.fault.WriteError.{WriteError}
+use Rattle.shared_repo.specs.declared.fault.WriteError.TheVariants.{Fault}
+use Rattle.shared_repo.specs.Commands.{Commands, IsReady, IsWritten, IsFaulty, IsKeptOrNew}
 use Rattle.entry_codec.specs.declared.entry.Entry.{Entry}
 use Rattle.entry_codec.specs.Refusals.{refusal}
 use Rattle.entry_bytes.specs.Spelling.{entry_bytes}
 use Rattle.repo_state.specs.Stands.{StandsFor, repository_of}
 use Rattle.repo_state.specs.Opening.{AreAccepted}
 use Rattle.repo_state.specs.declared.state.State.{State}
-use Rattle.journal_disk.specs.Keeper.{Figures, OneMore}
+use Rattle.journal_disk.specs.Keeper.{Figures, OneMore, NoMore}
 use Rattle.shared_repo.specs.Stored.{Opened, IsStoredEntry, Stores}
 
 -- what is told at the end was told before, without what was added
@@ -88,6 +92,25 @@ module _ {Q : Type 0} (figures : Q → Figures) (records : Q → Option (List (L
         stores = stores_more old new ready.state history e (costs (length (entry_bytes e))) s is.stands is.same is.allowed.allowed (storable, proper) cost grown;
         more = cost;
       }
+
+  -- what holds of a fault holds of an answer that is one
+  at_fault : (P : Result Written WriteError → Type 0) (answer : Result Written WriteError) → IsErrAnd answer (λ e. e ≡ Fault) → P (Err Fault) → P answer
+  at_fault P (Ok written) met p = absurd met
+  at_fault P (Err e) met p = subst (λ x. P (Err x)) (sym met) p
+
+  -- what was ready met a fault
+  pub faulty : (costs : ℕ → ℕ) (old : Opened Q) (mid new : Q) (ready : Ready) (history : List Entry) (e : Entry) (answer : Result Written WriteError) → Stores figures records old history
+      → IsReady costs (figures old.keeper) old.state history e ready → SameFigures (figures old.keeper) (figures mid) → records mid ≡ records old.keeper
+      → NoMore (figures mid) (figures new) → Grows (records mid) (records new) [] → IsErrAnd answer (λ e. e ≡ Fault)
+      → Commands figures records costs old (record { keeper = new; state = old.state }) history e answer
+  faulty costs old mid new ready history e answer s is same told fewer grows met =
+      let grown : Grows (records old.keeper) (records new) [] = subst (λ (o : Option (List (List ℕ))). Grows o (records new) []) told grows in
+      let fault : IsFaulty figures records costs old (record { keeper = new; state = old.state }) history e = record {
+        allowed = is.allowed;
+        stores = stores_same old new history s (fewer.repository ∙ same.repository) (fewer.count ∙ same.count) grown;
+        no_more = search rules;
+      } in
+      at_fault (Commands figures records costs old (record { keeper = new; state = old.state }) history e) answer met fault
 
 -- the bytes of an entry whose command can be stored
 pub short_bytes : (bytes : List ℕ) (moment : ℕ) (command : Command) → IsStorable command → bytes ≡ entry_bytes (record { moment = moment; command = command })

@@ -29,7 +29,7 @@ returns-clause-judged c =
           ∙ (λ i. first (multiple (sym c.as_slice.ensures i) ∷ moved branch.head (sym c.as_slice.ensures i) ∷ change_rows older (sym c.as_slice-2.ensures i)))
           ∙ sym c.in_ok-refusal.ensures ∙ c.in_default-2.is,
       commit_follows s c.args.moment c.args.project c.args.branch c.args.previous.now c.args.description.now c.args.changes.now c.unwrap_or-branch_id.result branch at_head c.in_ok-made.made c.in_ok-with_commit.field-0
-          c.made.result c.in_ok-copy_optional.field-0 c.made.ensures c.in_ok-copy_optional.ensures is there c.project_branch.ensures.stays c.at_head-older.ensures.own_values c.at_head-older.ensures.ancestry
+          c.made.result c.in_ok-copy_optional.field-0 c.made.ensures c.in_ok-copy_optional.ensures is there c.project_branch.ensures.stays c.commit_count-count.ensures.keeps c.at_head-older.ensures.numbered c.at_head-older.ensures.own_values c.at_head-older.ensures.ancestry
           (subst (λ cs. IsMade s (record { id = c.made.result; project = c.args.project; description = c.in_ok-copy_optional.field-0; previous = branch.head; created = c.args.moment }) at_head cs c.in_ok-made.made) c.as_slice-3.ensures c.in_ok-made.ensures)
           c.in_ok-with_commit.ensures.committed,
     )

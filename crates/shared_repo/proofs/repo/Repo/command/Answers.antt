@@ -2,7 +2,7 @@ use Rattle.std.proofs.Common.{ℕ, List, [], ◌∷◌, ◌++◌, ◌∙◌, Som
 use Rattle.std.specs.Prelude.{length, ◌+◌, ◌≤◌}
 use Rattle.entry_bytes.specs.Spelling.{entry_bytes}
 use Rattle.shared_repo.specs.Stored.{opened}
-use Rattle.shared_repo.proofs.Committing.{prepared_leaves, command_leaves, written}
+use Rattle.shared_repo.proofs.Committing.{prepared_leaves, command_leaves, faulty, written}
 use Rattle.shared_repo.proofs.repo.Repo.command.Goals as goal
 
 pub returns-in_err-state-clause-any_moment : goal.returns-in_err-state-clause-any_moment
@@ -14,6 +14,12 @@ pub keep-requires-clause-room : goal.keep-requires-clause-room
 keep-requires-clause-room g c =
     subst (λ (b : List ℕ). (g.Q.Keeper.figures c.prepare.new.keeper).used + g.Q.Keeper.costs (length b) ≤ (g.Q.Keeper.figures c.prepare.new.keeper).room)
     (sym c.deref.ensures.value) c.in_ok-state.ensures.fits
+
+pub returns-in_err-keep-clause-judged : goal.returns-in_err-keep-clause-judged
+returns-in_err-keep-clause-judged g c = λ history stores.
+    faulty g.Q.Keeper.figures g.Q.Keeper.records g.Q.Keeper.costs (opened c.args.self.now) c.prepare.new.keeper c.keep.new.keeper _ history
+    (record { moment = c.args.moment; command = c.args.command.now }) c.from_residual-in_err-keep.result stores (c.in_ok-state.ensures.judged history stores)
+    c.prepare.ensures.reserved.same_figures c.prepare.ensures.reserved.same_records c.in_err-keep.ensures.no_more c.in_err-keep.ensures.records c.from_residual-in_err-keep.ensures.1
 
 pub returns-in_err-keep-clause-any_moment : goal.returns-in_err-keep-clause-any_moment
 returns-in_err-keep-clause-any_moment g c = λ kept told some.
