@@ -6,7 +6,7 @@ use crate::{Repo, WriteError};
 use api_records::Command;
 use entry_codec::Entry;
 use journal_disk::{Keeper, MemoryKeeper, OpenFault};
-use repo_state::{State, StateOpen};
+use repo_state::{Kind, State, StateOpen};
 use std::alloc::Global;
 use std::slice;
 use std::test::Fail;
@@ -87,15 +87,19 @@ fn front(alloc: Global, bytes: &[u8]) -> Result<Result<u64, OpenFault>, Fail>
     })
 }
 
-/// How many entries a state has that is opened with the entry of this command alone, or the place of the entry that is refused.
-fn state_front(alloc: Global, command: Command) -> Result<Result<u64, u64>, Fail> {
+/// What is told of a state that is opened with the entry of this command alone: how many entries it has, and the branches of the
+/// first project. Or the place of the entry that is refused.
+fn opened(alloc: Global, command: Command) -> Result<Result<(u64, Vec<Id>), u64>, Fail> {
     if !command.is_storable() {
         return Err(Fail::from("the command can be stored"));
     }
     let moment = Moment::at_most(NOW);
     let entry = Entry { moment, command };
     match State::open(alloc, 1, slice::from_ref(&entry)) {
-        Ok(state) => Ok(Ok(state.front())),
+        Ok(state) => {
+            let branches = state.list(alloc, Kind::Branches, Some(Id::made(1, 0)), 1)?;
+            Ok(Ok((state.front(), branches)))
+        }
         Err(StateOpen::NotAcceptable { place }) => Ok(Err(place)),
         Err(StateOpen::Memory) => Err(Fail::from("there is memory")),
     }
@@ -105,16 +109,15 @@ fn state_front(alloc: Global, command: Command) -> Result<Result<u64, u64>, Fail
 fn states_of_one_entry(rt: HostRuntime) -> Result<(), Fail> {
     let alloc = rt.alloc();
     let project = Id::made(1, 0);
-    assert_eq!(rt;
-        state_front(alloc, Command::DeleteProject { project })?,
-        Err(0)
-    );
+    let refused = opened(alloc, Command::DeleteProject { project })?;
+    assert_eq!(rt; refused.err(), Some(0));
     let name = Some(Text::of(String::from_str(alloc, "P")?));
     let description = None;
-    assert_eq!(rt;
-        state_front(alloc, Command::CreateProject { name, description })?,
-        Ok(1)
-    );
+    let Ok((front, branches)) = opened(alloc, Command::CreateProject { name, description })? else {
+        return Err(Fail::from("it is opened"));
+    };
+    assert_eq!(rt; front, 1);
+    assert_eq!(rt; branches.as_slice(), [Id::made(1, 1)].as_slice());
     Ok(())
 }
 
