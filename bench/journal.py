@@ -1,7 +1,8 @@
 """How fast the built program keeps commits in a file, beside the same device calls alone, and how it opens many of them.
 
 Commits of one change go through `sysapi FILE once` on a real file, sent one at a time (the next when the response is read, so the
-time of this script counts too), and as a whole run over a file of them, from its start to its end. Beside them runs a loop of the four calls that keep a record of that length (write, sync, write, sync), in C, or
+time of this script counts too), and as a whole run over a file of them, from its start to its end, less a run over the few requests that
+come before them. Beside them runs a loop of the four calls that keep a record of that length (write, sync, write, sync), in C, or
 in Python where there is no gcc. The three take turns: a rate is the median of the rounds, and so is what it is over the loop's rate
 of the same round, since a device that others use too is now fast and now slow.
 Then a journal of many small commits is opened by `check` and by `once` without requests: the least time of the rounds, and the peak
@@ -126,13 +127,20 @@ def one_by_one(program, path, requests):
     return took, length_of_kept(path, len(requests))
 
 
-def in_one_stream(program, path, requests):
-    """How long a whole run takes that reads these commits from a file, from its start to its end, and the length of a record."""
-    with source_of(ELEMENTS + requests) as source:
+def run_over(program, path, requests):
+    """How long a whole run takes that reads these requests from a file, from its start to its end."""
+    with source_of(requests) as source:
         source.seek(0)
         start = time.perf_counter()
         subprocess.run([program, path, "once"], stdin=source, stdout=subprocess.DEVNULL, check=True)
-        took = time.perf_counter() - start
+        return time.perf_counter() - start
+
+
+def in_one_stream(program, path, requests):
+    """How much longer a run takes that goes on with these commits than one over the requests before them alone, and the length of a record."""
+    before = run_over(program, path, ELEMENTS)
+    os.remove(path)
+    took = run_over(program, path, ELEMENTS + requests) - before
     return took, length_of_kept(path, len(requests))
 
 
