@@ -1,9 +1,10 @@
 """How fast the built program keeps commits in a file, beside the same device calls alone, and how it opens many of them.
 
 Commits of one change go through `sysapi FILE once` on a real file, sent one at a time (the next when the response is read, so the
-time of this script counts too), and as a whole run over a file of them, from its start to its end, less a run over the few requests that
-come before them. Beside them runs a loop of the four calls that keep a record of that length (write, sync, write, sync), in C, or
-in Python where there is no gcc. The three take turns: a rate is the median of the rounds, and so is what it is over the loop's rate
+time of this script counts too), and as one stream, from a file of them. The stream's time is that between the moments of its first and of
+its last commit, which the journal has, so that neither the start of the program nor its end counts, and nothing looks on. Beside them
+runs a loop of the four calls that keep a record of that length (write, sync, write, sync), in C, or in Python where there is no gcc; its
+start and end count as little. The three take turns: a rate is the median of the rounds, and so is what it is over the loop's rate
 of the same round, since a device that others use too is now fast and now slow.
 Then a journal of many small commits is opened by `check` and by `once` without requests: the least time of the rounds, and the peak
 of resident memory beside that of a process that accepted the same commits in memory.
@@ -83,7 +84,7 @@ def commits(count):
     return [commit([change(it, f"B{it:07}")]) for it in range(count)]
 
 
-class Kept:
+class Keeping:
     """The program over a new file, behind the requests that make a project and its elements."""
 
     def __init__(self, program, path):
@@ -106,42 +107,41 @@ class Kept:
             sys.exit(f"the program ended with status {self.process.returncode}")
 
 
-def length_of_kept(path, count):
-    """The length of the records of the last commits in a journal, of which there are so many."""
+def kept(path, count):
+    """The records of the last commits in a journal, of which there are so many; the file is removed."""
     with open(path, "rb") as it:
         records = [record for _, record in Records(it.read()).placed]
     if len(records) != count + len(ELEMENTS):
         sys.exit(f"{len(records)} records for {count + len(ELEMENTS)} accepted commands, so the times say nothing")
     os.remove(path)
-    return max(len(it) for it in records[len(ELEMENTS) :])
+    return records[len(ELEMENTS) :]
 
 
 def one_by_one(program, path, requests):
-    """How long it takes to send these commits one at a time, and the length of a record."""
-    kept = Kept(program, path)
+    """How long it takes to send these commits one at a time."""
+    keeping = Keeping(program, path)
     start = time.perf_counter()
     for request in requests:
-        kept.ask(request)
+        keeping.ask(request)
     took = time.perf_counter() - start
-    kept.end()
-    return took, length_of_kept(path, len(requests))
+    keeping.end()
+    kept(path, len(requests))
+    return took
 
 
-def run_over(program, path, requests):
-    """How long a whole run takes that reads these requests from a file, from its start to its end."""
-    with source_of(requests) as source:
-        source.seek(0)
-        start = time.perf_counter()
-        subprocess.run([program, path, "once"], stdin=source, stdout=subprocess.DEVNULL, check=True)
-        return time.perf_counter() - start
+def moment_of(record):
+    """The moment of an entry, in milliseconds, with which its bytes begin."""
+    return int.from_bytes(record[:8], "big")
 
 
 def in_one_stream(program, path, requests):
-    """How much longer a run takes that goes on with these commits than one over the requests before them alone, and the length of a record."""
-    before = run_over(program, path, ELEMENTS)
-    os.remove(path)
-    took = run_over(program, path, ELEMENTS + requests) - before
-    return took, length_of_kept(path, len(requests))
+    """How long a run takes for these commits, told by the moments of the first and of the last, and the length of a record."""
+    with source_of(ELEMENTS + requests) as source:
+        source.seek(0)
+        subprocess.run([program, path, "once"], stdin=source, stdout=subprocess.DEVNULL, check=True)
+    records = kept(path, len(requests))
+    between = (moment_of(records[-1]) - moment_of(records[0])) / 1000
+    return between * len(records) / (len(records) - 1), max(len(it) for it in records)
 
 
 def raw_seconds(words, path, count, length):
@@ -158,7 +158,7 @@ def rates(program, folder, asked):
     times = {"raw": [], "single": [], "stream": []}
     for _ in range(asked.rounds):
         times["raw"].append(raw_seconds(words, path, len(requests), length))
-        times["single"].append(one_by_one(program, path, requests)[0])
+        times["single"].append(one_by_one(program, path, requests))
         times["stream"].append(in_one_stream(program, path, requests)[0])
     names = (f"the four calls alone, in {language}", "commits sent one at a time, by this script", "commits in one stream, from a file")
     for name, several in zip(names, times.values()):
